@@ -1,0 +1,7 @@
+// The book of one stock: an order table that the caller lends, and the calls on it.
+pub mod book;
+mod calls;
+mod edits;
+pub mod line;
+pub mod open;
+pub mod top;

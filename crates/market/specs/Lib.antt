@@ -1,0 +1,5 @@
+pub mod Sides
+pub mod Prices
+pub mod Quotes
+pub mod Rows
+pub mod Refusals

@@ -1,0 +1,6 @@
+use mathlib.Core.Path.{refl}
+use Rattle.matching.proofs.Edits.{written-one}
+use Rattle.matching.proofs.table.write_report.Needs as need
+
+pub returns : need.returns
+returns c = record { table = written-one (c .args .reports .now) (c .args .next) (c .args .report) (c .pre); next = refl }

@@ -1,0 +1,4 @@
+pub mod Lines
+pub mod Trading
+pub mod Arrival
+pub mod Repricing

@@ -1,0 +1,3 @@
+pub mod Sources
+pub mod Tapes
+pub mod Views
