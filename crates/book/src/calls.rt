@@ -174,7 +174,12 @@ pub(crate) fn amend(
 }
 
 // Takes a resting or waiting order out of the line.
-pub(crate) fn cancel(rows: &mut [OrderRow], len: usize, reports: &mut [Report], number: u32) -> Answered
+pub(crate) fn cancel(
+    rows: &mut [OrderRow],
+    len: usize,
+    reports: &mut [Report],
+    number: u32,
+) -> Answered
     requires { ⌜ len ≤ length (now rows) ⌝ ∗ ⌜ 0 < length (now reports) ⌝ ∗ ⌜ all-formed (take len (now rows)) ≡ true ⌝ }
     ensures len { λ r. ⌜ r .len ≤ len ⌝ }
     ensures formed { λ r. ⌜ all-formed (take (r .len) (now (rows .exit))) ≡ true ⌝ }

@@ -18,7 +18,12 @@ fn displayed_on(row: &OrderRow, side: Side) -> Option<u32> {
 }
 
 // The best price so far with its shares, and a row of that price and those shares.
-fn with_displayed(side: Side, best: Option<(u32, u32)>, price: u32, shares: u32) -> Option<(u32, u32)>
+fn with_displayed(
+    side: Side,
+    best: Option<(u32, u32)>,
+    price: u32,
+    shares: u32,
+) -> Option<(u32, u32)>
     requires { ⌜ shares-at best + shares < 2 ^ 32 ⌝ }
     ensures { λ r. ⌜ shares-at r ≤ shares-at best + shares ⌝ }
 {

@@ -6,10 +6,12 @@ ghost use Rattle.market.specs.Prices.{on-grid, step-above, step-below, step-ba
 use crate::side::Side;
 
 pub const LOWEST: u32 = 100;
+
 pub const HIGHEST: u32 = 900_000_000;
 
 // One dollar: below it every price is on the grid, from it on the multiples of a cent.
 const DOLLAR: u32 = 10_000;
+
 const CENT: u32 = 100;
 
 pub fn is_on_grid(price: u32) -> bool
@@ -23,7 +25,11 @@ pub fn step_above(price: u32) -> u32
     requires { ⌜ price ≤ 900000000 ⌝ }
     ensures { λ r. ⌜ r ≡ step-above price ⌝ }
 {
-    if price < DOLLAR { price + 1 } else { price + CENT }
+    if price < DOLLAR {
+        price + 1
+    } else {
+        price + CENT
+    }
 }
 
 // The price one step below a price.
@@ -31,7 +37,11 @@ pub fn step_below(price: u32) -> u32
     requires { ⌜ 100 ≤ price ⌝ }
     ensures { λ r. ⌜ r ≡ step-below price ⌝ }
 {
-    if price <= DOLLAR { price - 1 } else { price - CENT }
+    if price <= DOLLAR {
+        price - 1
+    } else {
+        price - CENT
+    }
 }
 
 // One step away from the other side: below for a buy, above for a sell.

@@ -9,8 +9,6 @@ use lib.Dec.{eqb}
 use lib.ListN.{length, drop, getD, drop-of-length-le}
 use lib.Seq.{drop-cons}
 use Rattle.std.specs.shelf.Maps.{nth}
-use Rattle.std.proofs.shelf.Ways.{tells}
-use Rattle.std.proofs.shelf.Tests.{ne-eqb}
 use Rattle.std.specs.declared.option.Option.{Option}
 use Rattle.std.specs.declared.option.Option.the-variants.{Some, None}
 use Rattle.market.specs.declared.row.OrderRow.{OrderRow}
@@ -38,11 +36,11 @@ module _ (number : ℕ) (line : Line) (i : ℕ) (d : OrderRow) (h : i < length l
   here : find number line ≡ from i (cond (eqb (getD line i d .number) number) (Some (at-front (getD line i d))) (one-back? (find number (drop (i + 1) line))))
   here = let w : drop i line ≡ getD line i d ∷ drop (i + 1) line = rw add-one (drop-cons line i d h) in e ∙ ap (λ l. from i (find number l)) w
 
-  pub found : getD line i d .number ≡ number → Some (record { place = i; row = getD line i d }) ≡ find number line
-  found q = let t : eqb (getD line i d .number) number ≡ true = grind (arith, tells) in let z : i ≡ i + 0 = omega arith in sym (here ∙ rw t (ap (at-place (getD line i d)) (sym z)))
+  pub found : eqb (getD line i d .number) number ≡ true → Some (record { place = i; row = getD line i d }) ≡ find number line
+  found t = let z : i ≡ i + 0 = omega arith in sym (here ∙ rw t (ap (at-place (getD line i d)) (sym z)))
 
-  pub passed : (getD line i d .number ≡ number → ⊥) → find number line ≡ from (i + 1) (find number (drop (i + 1) line))
-  passed q = let t : eqb (getD line i d .number) number ≡ false = ne-eqb _ _ q in here ∙ rw t (from-back i (find number (drop (i + 1) line)))
+  pub passed : eqb (getD line i d .number) number ≡ false → find number line ≡ from (i + 1) (find number (drop (i + 1) line))
+  passed t = here ∙ rw t (from-back i (find number (drop (i + 1) line)))
 
 pub missed : (number : ℕ) (line : Line) (i : ℕ) → length line ≤ i → find number line ≡ from i (find number (drop i line)) → None ≡ find number line
 missed number line i h e = sym (e ∙ ap (λ l. from i (find number l)) (drop-of-length-le line h))

@@ -22,7 +22,7 @@ use Rattle.rules.specs.declared.repricing.Pass.the-variants.{First, Second}
 use Rattle.rules.specs.declared.trading.Placed.{Placed}
 use Rattle.rules.specs.Lines.{Line, Event, replay, joins, leaves, becomes, reports, replace-at, less-shares, all-formed, find}
 use Rattle.rules.specs.Trading.{fewer, fills-of, total, fill-events}
-use Rattle.rules.specs.Repricing.{repriced, follows, if-follows, follower, same-display, repriced-report, row-falls, fall-of, fall, rests-last, row-rises, rise-of, rise, each, numbers, reprices}
+use Rattle.rules.specs.Repricing.{repriced, follows, if-follows, follower, takes-new-place, same-display, repriced-report, row-falls, fall-of, fall, rests-last, row-rises, rise-of, rise, each, numbers, reprices}
 use Rattle.rules.proofs.Tests.{none-some}
 use Rattle.rules.proofs.Events.{replay-++}
 use Rattle.rules.proofs.Formed.{nth-formed, append-formed, replace-formed, one-formed, less-formed, follower-formed}
@@ -65,22 +65,20 @@ module _ (q : Quote) (number : ℕ) (line : Line) (table : List Report) (next : 
     falls-is : fall q number line ≡ row-falls new p
     falls-is = ap (fall-of q) (sym e) ∙ ap (λ n. row-falls n p) (sym is)
 
-    pub falls-same : new .working ≡ p .row .working → same-display (new .display) (p .row .display) ≡ true → Made (fall q number line) line table next line table next
+    pub falls-same : takes-new-place (p .row) new ≡ false → same-display (new .display) (p .row .display) ≡ true → Made (fall q number line) line table next line table next
     falls-same w d =
-        let t : eqb (new .working) (p .row .working) ≡ true = grind (arith, tells) in
-        subst (λ es. Made es line table next line table next) (sym (falls-is ∙ rw (t, d) refl)) (made-none line table next)
+        let es : fall q number line ≡ [] = falls-is ∙ rw (w, d) refl in
+        subst (λ es. Made es line table next line table next) (sym es) (made-none line table next)
 
     module _ (line′ : Line) (table′ : List Report) (next′ : ℕ) (t : table′ ≡ written table next (repriced-report new ∷ [])) (n : next′ ≡ next + 1) where
-      pub falls-moved : (new .working ≡ p .row .working → ⊥) → line′ ≡ replace-at (p .place) [] line ++ new ∷ [] → Made (fall q number line) line table next line′ table′ next′
+      pub falls-moved : takes-new-place (p .row) new ≡ true → line′ ≡ replace-at (p .place) [] line ++ new ∷ [] → Made (fall q number line) line table next line′ table′ next′
       falls-moved w l =
-          let c : eqb (new .working) (p .row .working) ≡ false = ne-eqb _ _ w in
-          let es : fall q number line ≡ leaves (p .place) ∷ joins new ∷ reports (repriced-report new) ∷ [] = falls-is ∙ rw c refl in
+          let es : fall q number line ≡ leaves (p .place) ∷ joins new ∷ reports (repriced-report new) ∷ [] = falls-is ∙ rw w refl in
           subst (λ es. Made es line table next line′ table′ next′) (sym es) (record { line-is = l; table-is = t; next-is = n })
 
-      pub falls-shown : new .working ≡ p .row .working → same-display (new .display) (p .row .display) ≡ false → line′ ≡ replace-at (p .place) (new ∷ []) line → Made (fall q number line) line table next line′ table′ next′
+      pub falls-shown : takes-new-place (p .row) new ≡ false → same-display (new .display) (p .row .display) ≡ false → line′ ≡ replace-at (p .place) (new ∷ []) line → Made (fall q number line) line table next line′ table′ next′
       falls-shown w d l =
-          let c : eqb (new .working) (p .row .working) ≡ true = grind (arith, tells) in
-          let es : fall q number line ≡ becomes (p .place) new ∷ reports (repriced-report new) ∷ [] = falls-is ∙ rw (c, d) refl in
+          let es : fall q number line ≡ becomes (p .place) new ∷ reports (repriced-report new) ∷ [] = falls-is ∙ rw (w, d) refl in
           subst (λ es. Made es line table next line′ table′ next′) (sym es) (record { line-is = l; table-is = t; next-is = n })
 
 pub moved-formed : (i : ℕ) (new : OrderRow) (line line′ : Line) → formed new ≡ true → all-formed line ≡ true → line′ ≡ replace-at i [] line ++ new ∷ [] → all-formed line′ ≡ true

@@ -95,5 +95,6 @@ pub fn rises(quote: Quote, row: OrderRow) -> bool
     requires { ⌜ formed quote ≡ true ⌝ }
     ensures { λ r. ⌜ r ≡ risesOf quote row ⌝ }
 {
-    row.side.is_better(repriced(quote, row).working, row.working)
+    row.side
+        .is_better(repriced(quote, row).working, row.working)
 }

@@ -5,7 +5,7 @@ ghost use Prim.Native.Nat.{_+_, _*_, _<_, _≤_};
 ghost use lib.ListN.{length, take};
 ghost use Rattle.market.specs.Quotes.{formed};
 ghost use Rattle.rules.specs.Lines.{all-formed};
-ghost use Rattle.rules.specs.Repricing.{takes-part, numbers as numbersOf, follower as followerOf, same-display, repriced-report, fall, rise, each, reprices};
+ghost use Rattle.rules.specs.Repricing.{takes-part, numbers as numbersOf, follower as followerOf, takes-new-place, same-display, repriced-report, fall, rise, each, reprices};
 ghost use Rattle.rules.specs.declared.repricing.Pass.the-variants.{First, Second};
 ghost use Rattle.matching.specs.Tables.{Made};
 use crate::arrival::Progress;
@@ -67,6 +67,13 @@ fn follower(line: &[OrderRow], number: u32) -> Option<Placed>
     }
 }
 
+// Whether a repriced row takes a new place: only if its working price changed.
+fn takes_new_place(old: &OrderRow, new: &OrderRow) -> bool
+    ensures { λ r. ⌜ r ≡ takes-new-place (now (old .entry)) (now (new .entry)) ⌝ }
+{
+    new.working != old.working
+}
+
 fn is_same_display(a: Option<u32>, b: Option<u32>) -> bool
     ensures { λ r. ⌜ r ≡ same-display a b ⌝ }
 {
@@ -88,7 +95,7 @@ fn report_of(row: OrderRow) -> Report
     }
 }
 
-// The first pass over one order: a changed row takes a new place only if its working price changed.
+// The first pass over one order.
 fn reprice_falling(
     rows: &mut [OrderRow],
     len: usize,
@@ -108,7 +115,7 @@ fn reprice_falling(
     let old = found.row;
     let new = repriced(quote, old);
     let order = Order::known(new);
-    if new.working != old.working {
+    if takes_new_place(&old, &new) {
         write_last(rows, len, found.place, order);
         return write_report(reports, next, report_of(new));
     }
@@ -204,12 +211,7 @@ fn second_pass(
 }
 
 // Reprices the line at the quote, and reports each changed order and each fill from the first report row on.
-pub fn reprice(
-    rows: &mut [OrderRow],
-    len: usize,
-    reports: &mut [Report],
-    quote: Quote,
-) -> Progress
+pub fn reprice(rows: &mut [OrderRow], len: usize, reports: &mut [Report], quote: Quote) -> Progress
     requires { ⌜ len ≤ length (now rows) ⌝ ∗ ⌜ len ≤ 1024 ⌝ ∗ ⌜ len + len ≤ length (now reports) ⌝ ∗ ⌜ all-formed (take len (now rows)) ≡ true ⌝ ∗ ⌜ formed quote ≡ true ⌝ }
     ensures made { λ r. ⌜ Made (reprices quote (take len (now (rows .entry)))) (take len (now (rows .entry))) (now (reports .entry)) 0 (take (r .len) (now (rows .exit))) (now (reports .exit)) (r .next) ⌝ }
     ensures formed { λ r. ⌜ all-formed (take (r .len) (now (rows .exit))) ≡ true ⌝ }

@@ -34,13 +34,13 @@ pub fn move_to_end(rows: &mut [OrderRow], len: usize, i: usize)
     tail.rotate_left(1);
 }
 
-// Writes an order whole in the place `i` of the line and moves it to the end.
-pub fn write_last(rows: &mut [OrderRow], len: usize, i: usize, order: Order)
-    requires { ⌜ i < len ⌝ ∗ ⌜ len ≤ length (now rows) ⌝ }
-    ensures { λ _. ⌜ take len (now (rows .exit)) ≡ replace-at i [] (take len (now (rows .entry))) ++ order .row ∷ [] ⌝ }
+// Writes an order whole at `place`, and moves it to the end of the line.
+pub fn write_last(rows: &mut [OrderRow], len: usize, place: usize, order: Order)
+    requires { ⌜ place < len ⌝ ∗ ⌜ len ≤ length (now rows) ⌝ }
+    ensures { λ _. ⌜ take len (now (rows .exit)) ≡ replace-at place [] (take len (now (rows .entry))) ++ order .row ∷ [] ⌝ }
 {
-    write(rows, len, i, order);
-    move_to_end(rows, len, i);
+    write(rows, len, place, order);
+    move_to_end(rows, len, place);
 }
 
 // Takes the row at `i` out of the line, which is one row shorter after.

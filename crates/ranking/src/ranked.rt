@@ -22,6 +22,13 @@ pub trait Ranked {
         ensures { λ r. ⌜ r ≡ ahead view (now (self .entry)) (now (other .entry)) ⌝ };
 }
 
+// Whether a later row takes the lead: only if it outranks the leader, so that the earliest of tied rows keeps it.
+fn takes_lead<R: Ranked>(row: &R, leader: &R, view: R::View) -> bool
+    ensures { λ r. ⌜ r ≡ ahead view (now (row .entry)) (now (leader .entry)) ⌝ }
+{
+    row.outranks(leader, view)
+}
+
 // The place of the earliest row that qualifies and that no row that qualifies outranks.
 pub fn first_ranked<R: Ranked>(rows: &[R], view: R::View) -> Option<usize>
     ensures { λ r. ⌜ First (counts view) (ahead view) (now (rows .entry)) r ⌝ }
@@ -32,7 +39,7 @@ pub fn first_ranked<R: Ranked>(rows: &[R], view: R::View) -> Option<usize>
             match best {
                 None => best = Some(i),
                 Some(b) => {
-                    if row.outranks(&rows[b], view) {
+                    if takes_lead(row, &rows[b], view) {
                         best = Some(i);
                     }
                 }

@@ -104,12 +104,16 @@ same-display None (Some b) = false
 same-display (Some a) None = false
 same-display (Some a) (Some b) = eqb a b
 
--- a changed row reports P, and takes a new place only if its working price changed
+-- a row takes a new place only if its working price changed
+abbrev pub takes-new-place : OrderRow → OrderRow → Bool
+takes-new-place old new = not (eqb (new .working) (old .working))
+
+-- a changed row reports P
 abbrev pub row-falls : OrderRow → Placed → List Event
 row-falls new p =
-    cond (eqb (new .working) (p .row .working))
-    (cond (same-display (new .display) (p .row .display)) [] (becomes (p .place) new ∷ reports (repriced-report new) ∷ []))
+    cond (takes-new-place (p .row) new)
     (leaves (p .place) ∷ joins new ∷ reports (repriced-report new) ∷ [])
+    (cond (same-display (new .display) (p .row .display)) [] (becomes (p .place) new ∷ reports (repriced-report new) ∷ []))
 
 -- what is left of a row after its fills rests at the end of the line, and is not reported
 abbrev pub rests-last : OrderRow → List Fill → List Event

@@ -8,13 +8,8 @@ use market::row::Entry;
 pub enum Remainder {
     Cancels,
     // Waits to be routed to the away price.
-    Waits {
-        away: u32,
-    },
-    Rests {
-        working: u32,
-        display: Option<u32>,
-    },
+    Waits { away: u32 },
+    Rests { working: u32, display: Option<u32> },
 }
 
 impl Remainder {

@@ -1,13 +1,14 @@
 -- The first line of a tape's lines, and the others.
 use Prim.Native.Nat.{ℕ, _+_, _<_}
-use mathlib.Core.Path.{_≡_, refl}
+use mathlib.Core.Path.{_≡_, refl, sym, ap, _∙_}
 use mathlib.Core.Bool.{true}
 use mathlib.Core.List.{List, [], _∷_}
 use native.Mathlib.Omega.{arith}
-use lib.ListN.{length, take, drop}
+use lib.ListN.{length, take, drop, length-drop}
 use Rattle.std.specs.declared.result.Result.{Result}
 use Rattle.std.specs.declared.result.Result.the-variants.{Ok, Err}
 use Rattle.std.specs.Results.{isOk, valueOr}
+use Rattle.std.proofs.shelf.Lists.{drop-drop}
 use Rattle.std.proofs.shelf.Tests.{false≢true}
 use Rattle.market.specs.declared.quote.Quote.{Quote}
 use Rattle.market.specs.declared.refusal.Refusal.the-variants.{NoFurtherQuote}
@@ -58,9 +59,18 @@ module _ (n : ℕ) (front after : List ℕ) where
       let r = read-first (quote-line front) rest (rw is at some) in
       record { quote = r .0; read = r .1; quotes = rw is (r .2); others = r .3 }
 
--- the line in force of a tape
-pub front-at : (t : Tape) (front after : List ℕ) → (0 < length (t .rest .now) → pieces 10 (t .rest .now) ≡ front ∷ pieces 10 after) → Front (t .line) (t .rest .now) front after
-front-at t front after cut = front-of (t .line) front after (t .rest .now) cut (t .some)
+-- the line in force of a tape, cut from the text that is left
+pub front-at : (t : Tape) (left front after : List ℕ) → left ≡ drop (t .place) (t .text .now) → (0 < length left → pieces 10 left ≡ front ∷ pieces 10 after) → Front (t .line) (drop (t .place) (t .text .now)) front after
+front-at t left front after is cut = front-of (t .line) front after (drop (t .place) (t .text .now)) (rw is at cut) (t .some)
+
+-- the text behind that line
+pub left-after : (t : Tape) (left front after : List ℕ) → left ≡ drop (t .place) (t .text .now) → after ≡ drop (length front) left → drop (t .place + length front) (t .text .now) ≡ after
+left-after t left front after is back = sym (drop-drop (length front) (t .place) (t .text .now)) ∙ ap (drop (length front)) (sym is) ∙ sym back
+
+pub place-within : (t : Tape) → t .place < length (t .text .now)
+place-within t =
+    let some = some-bytes (t .line) (drop (t .place) (t .text .now)) (t .some) in
+    omega (arith, length-drop (t .place) (t .text .now))
 
 module _ {n : ℕ} {bs front after : List ℕ} (f : Front n bs front after) where
   -- at the last line the tape stays

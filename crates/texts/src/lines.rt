@@ -3,7 +3,7 @@ ghost use mathlib.Core.Path.{_≡_};
 ghost use mathlib.Core.Bool.{true};
 ghost use mathlib.Core.List.{List, _∷_};
 ghost use Prim.Native.Nat.{ℕ, _+_, _<_, _≤_};
-ghost use lib.ListN.{length, take};
+ghost use lib.ListN.{length, take, drop};
 ghost use Rattle.std.specs.declared.result.Result.{Result};
 ghost use Rattle.std.specs.Results.{mapped};
 ghost use Rattle.std.specs.shelf.Text.{sameBytes};
@@ -42,6 +42,7 @@ pub fn first_piece(bytes: &[u8], end: u8) -> (&[u8], &[u8])
     ensures cut { λ r. ⌜ (0 < length (now (bytes .entry)) → pieces end (now (bytes .entry)) ≡ now (r .0) ∷ pieces end (now (r .1))) ⌝ }
     ensures some { λ r. ⌜ (0 < length (now (bytes .entry)) → 0 < length (now (r .0))) ⌝ }
     ensures len { λ r. ⌜ length (now (r .0)) + length (now (r .1)) ≡ length (now (bytes .entry)) ⌝ }
+    ensures back { λ r. ⌜ now (r .1) ≡ drop (length (now (r .0))) (now (bytes .entry)) ⌝ }
 {
     bytes.split_at(piece_len(bytes, end))
 }

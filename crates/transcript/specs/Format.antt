@@ -1,11 +1,14 @@
 -- The printed report, line by line.
+use mathlib.Core.Bool.{Bool}
 use mathlib.Core.List.{List, [], _∷_, _++_}
 use Prim.Native.Nat.{ℕ}
 use lib.Chars.{codes}
+use lib.ListN.{length, take}
 use Rattle.std.specs.Joined.{joined}
 use Rattle.std.specs.Of.Vec.{vec-items}
 use Rattle.std.specs.Options.{valueOr}
 use Rattle.std.specs.Written.{decimal}
+use Rattle.std.specs.shelf.Text.{sameBytes}
 use Rattle.market.specs.declared.report.Report.{Report}
 use Rattle.market.specs.declared.report.Report.the-variants.{Filled, Cancelled, Added, Waiting, Resting, Repriced}
 use Rattle.market.specs.declared.side.Side.{Side}
@@ -51,5 +54,11 @@ abbrev pub closing-lines : Closing → List ℕ
 closing-lines Early = []
 closing-lines (Tops buy sell) = top-line buy ++ top-line sell
 
+abbrev pub header : List ℕ
+header = codes "report,number,other,price,shares\n"
+
+abbrev pub begins-with-header : List ℕ → Bool
+begins-with-header bytes = sameBytes header (take (length header) bytes)
+
 abbrev pub transcript-text : List Answer → Closing → List ℕ
-transcript-text answers closing = codes "report,number,other,price,shares\n" ++ (joined answer-lines answers ++ closing-lines closing)
+transcript-text answers closing = header ++ (joined answer-lines answers ++ closing-lines closing)

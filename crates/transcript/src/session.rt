@@ -4,8 +4,10 @@ ghost use mathlib.Core.Path.{_≡_};
 ghost use mathlib.Core.Bool.{true};
 ghost use lib.ListN.{length};
 ghost use Rattle.std.specs.Results.{isOk};
+ghost use Rattle.std.specs.Of.String.{string-bytes};
 ghost use Rattle.std.specs.Vec.{made};
 ghost use Rattle.book.specs.Held.{Counted};
+ghost use Rattle.transcript.specs.Format.{transcript-text, begins-with-header};
 use crate::answer::Answer;
 use crate::answer::Closing;
 use crate::answer::TopLine;
@@ -34,6 +36,7 @@ use texts::tape::check_tape;
 pub const MOST_BYTES: usize = 65_536;
 
 const ORDER_ROWS: usize = 64;
+
 const REPORT_ROWS: usize = 129;
 
 // The number of the session's book. It is never printed.
@@ -51,6 +54,7 @@ const UNUSED_ROW: OrderRow = OrderRow {
     working: 0,
     display: None,
 };
+
 const UNUSED_REPORT: Report = Report::Cancelled {
     number: 0,
     shares: 0,
@@ -157,13 +161,17 @@ fn answer_all<S: QuoteSource>(
     Ok(answers)
 }
 
-fn text_of(heap: Global, answers: &[Answer], closing: Closing) -> Result<String, AllocError> {
+fn text_of(heap: Global, answers: &[Answer], closing: Closing) -> Result<String, AllocError>
+    ensures { λ r. ⌜ made r (λ s. string-bytes s ≡ transcript-text (now (answers .entry)) closing) ⌝ }
+{
     let transcript = Transcript { answers, closing };
     format!(heap, "{transcript}")
 }
 
 // A session that a text ends before its first call.
-fn ended_early(heap: Global, refusal: TextRefusal) -> Result<String, AllocError> {
+fn ended_early(heap: Global, refusal: TextRefusal) -> Result<String, AllocError>
+    ensures { λ r. ⌜ made r (λ s. begins-with-header (string-bytes s) ≡ true) ⌝ }
+{
     let refused = Answer::Refused {
         refusal: refusal.refusal,
         line: refusal.line,
@@ -180,6 +188,7 @@ fn run_calls<S: QuoteSource>(
     lines: &[u8],
 ) -> Result<String, AllocError>
     requires { ⌜ length (now lines) ≤ 65536 ⌝ }
+    ensures { λ r. ⌜ made r (λ s. begins-with-header (string-bytes s) ≡ true) ⌝ }
 {
     let mut reports = [UNUSED_REPORT; REPORT_ROWS];
     let answers = answer_all(heap, book, source, lines, &mut reports)?;
@@ -197,7 +206,9 @@ fn run_calls<S: QuoteSource>(
 }
 
 // All that a session prints, from the bytes of its quote file and of its script.
-pub fn session(heap: Global, quotes: &[u8], script: &[u8]) -> Result<String, AllocError> {
+pub fn session(heap: Global, quotes: &[u8], script: &[u8]) -> Result<String, AllocError>
+    ensures { λ r. ⌜ made r (λ s. begins-with-header (string-bytes s) ≡ true) ⌝ }
+{
     if let Err(refusal) = check_quotes(quotes) {
         return ended_early(heap, refusal);
     }

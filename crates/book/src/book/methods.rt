@@ -1,7 +1,8 @@
 ghost use mathlib.Core.Path.{_≡_};
 ghost use mathlib.Core.List.{[]};
+ghost use Prim.Native.Nat.{_*_, _≤_};
 ghost use lib.ListN.{length};
-ghost use Rattle.book.specs.Held.{held, size as sizeOf, Counted};
+ghost use Rattle.book.specs.Held.{held, size as sizeOf, Counted, shares-at};
 use crate::book::Book;
 use crate::line::Line;
 use crate::top::best_displayed;
@@ -59,7 +60,8 @@ impl<'a> Book<'a> {
         ensures within { λ r. ⌜ Counted r (length (now (reports .entry))) ⌝ }
     {
         self.line.check_reports(reports)?;
-        self.line.amend(number, price, shares, source.look(), reports)
+        self.line
+            .amend(number, price, shares, source.look(), reports)
     }
 
     // Takes a resting or waiting order out of the line.
@@ -88,7 +90,9 @@ impl<'a> Book<'a> {
     }
 
     // The best display price of a side, and the shares displayed at it.
-    pub fn top(&self, side: Side) -> Option<(u32, u32)> {
+    pub fn top(&self, side: Side) -> Option<(u32, u32)>
+        ensures { λ r. ⌜ shares-at r ≤ 1000000 * length (held (now (self .entry) .line)) ⌝ }
+    {
         best_displayed(&self.line.rows[0..self.line.len], side)
     }
 }

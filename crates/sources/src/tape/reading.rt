@@ -1,4 +1,5 @@
 ghost use mathlib.Core.Path.{_≡_};
+ghost use lib.ListN.{drop};
 ghost use Rattle.sources.specs.Tapes.{tape-or-stand-in, quotes-in};
 ghost use Rattle.sources.specs.Views.{quotes-of};
 use crate::source::QuoteSource;
@@ -25,8 +26,19 @@ impl<'a> Tape<'a> {
     pub fn over(text: &'a [u8]) -> Tape<'a>
         ensures { λ r. ⌜ quotes-of r ≡ quotes-in (now (text .entry)) ⌝ }
     {
-        let (_, rest) = tape_or_stand_in(text).split_at(HEADER.len());
-        Tape { rest, line: 2 }
+        Tape {
+            text: tape_or_stand_in(text),
+            place: HEADER.len(),
+            line: 2,
+        }
+    }
+
+    // The text from the line in force on.
+    fn rest(&self) -> &'a [u8]
+        ensures { λ r. ⌜ now r ≡ drop (now (self .entry) .place) (now (now (self .entry) .text)) ⌝ }
+    {
+        let (_, rest) = self.text.split_at(self.place);
+        rest
     }
 }
 
@@ -38,7 +50,7 @@ pub impl QuoteSource for Tape<'_> as TapeSource {
     ghost formed = { λ s. s .formed };
 
     fn look(&self) -> Quote {
-        let (line, _) = first_piece(self.rest, b'\n');
+        let (line, _) = first_piece(self.rest(), b'\n');
         match read_quote(line) {
             Ok(quote) => quote,
             Err(_) => unreachable(),
@@ -46,11 +58,11 @@ pub impl QuoteSource for Tape<'_> as TapeSource {
     }
 
     fn advance(&mut self) -> Result<(), Refusal> {
-        let (_, after) = first_piece(self.rest, b'\n');
+        let (line, after) = first_piece(self.rest(), b'\n');
         if after.len() == 0 {
             return Err(Refusal::NoFurtherQuote);
         }
-        self.rest = after;
+        self.place += line.len();
         self.line += 1;
         Ok(())
     }

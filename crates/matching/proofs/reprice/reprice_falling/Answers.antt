@@ -30,14 +30,14 @@ write-last-requires c κs = let size = length-take (c .args .len) (c .args .rows
 pub write-requires : need.write-requires
 write-requires c κs = let size = length-take (c .args .len) (c .args .rows .now) in (omega (arith, facts (need.at·write-requires c .In-Some) .within), c .pre .0)
 
-pub returns-then-new-old : need.returns-then-new-old
-returns-then-new-old c =
-    let f = found (need.at·returns-then-new-old c .In-Some) in
+pub returns-then-takes-new-place : need.returns-then-takes-new-place
+returns-then-takes-new-place c =
+    let f = found (need.at·returns-then-takes-new-place c .In-Some) in
     let line = take (c .args .len) (c .args .rows .now) in
     let l = c .write-last .ensures ∙ ap (λ r. replace-at (c .in-Some .found .place) [] line ++ r ∷ []) (c .known-order .ensures) in
     let t = c .write-report .ensures .table ∙ ap (λ r. written (c .args .reports .now) (c .args .next) (r ∷ [])) (c .report-of .ensures) in
     record {
-      made = falls-moved (c .args .quote) (c .args .number) line _ _ (c .in-Some .found) f _ (c .repriced-new .ensures) _ _ _ t (c .write-report .ensures .next) (c .if-new-old .taken) l;
+      made = falls-moved (c .args .quote) (c .args .number) line _ _ (c .in-Some .found) f _ (c .repriced-new .ensures) _ _ _ t (c .write-report .ensures .next) (sym (c .if-takes-new-place .ensures tt)) l;
       formed = moved-formed (c .in-Some .found .place) _ line _ (ap formed (sym (c .known-order .ensures)) ∙ c .known-order .result .«formed_row») (c .pre .1 .1 .0) l;
       most = omega (arith, c .write-report .ensures .next);
     }
@@ -45,7 +45,7 @@ returns-then-new-old c =
 pub returns-then-is-same-display : need.returns-then-is-same-display
 returns-then-is-same-display c =
     record {
-      made = falls-same (c .args .quote) (c .args .number) (take (c .args .len) (c .args .rows .now)) _ _ (c .in-Some .found) (found (need.at·returns-then-is-same-display c .In-Some)) _ (c .repriced-new .ensures) (c .if-new-old .left) (sym (c .if-is-same-display .ensures tt));
+      made = falls-same (c .args .quote) (c .args .number) (take (c .args .len) (c .args .rows .now)) _ _ (c .in-Some .found) (found (need.at·returns-then-is-same-display c .In-Some)) _ (c .repriced-new .ensures) (sym (c .if-takes-new-place .ensures tt)) (sym (c .if-is-same-display .ensures tt));
       formed = c .pre .1 .1 .0;
       most = omega arith;
     }
@@ -57,7 +57,7 @@ returns c =
     let l = c .write .ensures ∙ ap (λ r. replace-at (c .in-Some .found .place) (r ∷ []) line) (c .known-order .ensures) in
     let t = c .write-report-2 .ensures .table ∙ ap (λ r. written (c .args .reports .now) (c .args .next) (r ∷ [])) (c .report-of-2 .ensures) in
     record {
-      made = falls-shown (c .args .quote) (c .args .number) line _ _ (c .in-Some .found) f _ (c .repriced-new .ensures) _ _ _ t (c .write-report-2 .ensures .next) (c .if-new-old .left) (sym (c .if-is-same-display .ensures tt)) l;
+      made = falls-shown (c .args .quote) (c .args .number) line _ _ (c .in-Some .found) f _ (c .repriced-new .ensures) _ _ _ t (c .write-report-2 .ensures .next) (sym (c .if-takes-new-place .ensures tt)) (sym (c .if-is-same-display .ensures tt)) l;
       formed = shown-formed (c .in-Some .found .place) _ line _ (ap formed (sym (c .known-order .ensures)) ∙ c .known-order .result .«formed_row») (c .pre .1 .1 .0) l;
       most = omega (arith, c .write-report-2 .ensures .next);
     }

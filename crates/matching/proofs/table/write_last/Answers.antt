@@ -8,4 +8,4 @@ use Rattle.matching.proofs.table.write_last.Needs as need
 pub returns : need.returns
 returns c =
     let size = length-take (c .args .len) (c .args .rows .now) in
-    c .move-to-end .ensures ∙ ap (to-end (c .args .i)) (c .write .ensures) ∙ replaced-to-end (c .args .i) (c .args .order .row) (take (c .args .len) (c .args .rows .now)) (omega arith)
+    c .move-to-end .ensures ∙ ap (to-end (c .args .place)) (c .write .ensures) ∙ replaced-to-end (c .args .place) (c .args .order .row) (take (c .args .len) (c .args .rows .now)) (omega arith)

@@ -5,7 +5,7 @@ use native.Mathlib.Omega.{arith}
 use Rattle.std.proofs.shelf.Maps.{nth-read}
 use Rattle.ranking.proofs.Leading.{passes, keeps, starts, takes, ends}
 use Rattle.ranking.proofs.ranked.first_ranked.Needs as need
-use Rattle.ranking.proofs.ranked.first_ranked.Needs.{then-qualifies·in-None, then-qualifies·in-Some·then-outranks, then-qualifies·in-Some·else-outranks, else-qualifies}
+use Rattle.ranking.proofs.ranked.first_ranked.Needs.{then-qualifies·in-None, then-qualifies·in-Some·then-takes-lead, then-qualifies·in-Some·else-takes-lead, else-qualifies}
 
 pub loop-i-again : need.loop-i-again
 loop-i-again g c =
@@ -13,8 +13,8 @@ loop-i-again g c =
     let here = nth-read (c .args .rows .now) _ (c .loop-i .i) (c .index-rows-i .result) refl (c .loop-i-test .taken) (c .index-rows-i .is) in
     elim (c .if-qualifies .came) [
       | then-qualifies·in-None w ↦ simp (w .best-is) (starts laws _ _ _ here (sym (w .if-qualifies .ensures tt)) (simp (w .in-None .is) at (c .loop-i .inv)))
-      | then-qualifies·in-Some·then-outranks w ↦ simp (w .best-is) (takes laws _ _ _ _ _ (c .loop-i-test .taken) here (w .index-rows-b .is) (sym (w .if-qualifies .ensures tt)) (sym (w .if-outranks .ensures tt)) (simp (w .in-Some .is) at (c .loop-i .inv)))
-      | then-qualifies·in-Some·else-outranks w ↦ simp (w .best-is) (keeps laws _ _ _ _ _ (c .loop-i-test .taken) here (w .index-rows-b .is) (sym (w .if-outranks .ensures tt)) (simp (w .in-Some .is) at (c .loop-i .inv)))
+      | then-qualifies·in-Some·then-takes-lead w ↦ simp (w .best-is) (takes laws _ _ _ _ _ (c .loop-i-test .taken) here (w .index-rows-b .is) (sym (w .if-qualifies .ensures tt)) (sym (w .if-takes-lead .ensures tt)) (simp (w .in-Some .is) at (c .loop-i .inv)))
+      | then-qualifies·in-Some·else-takes-lead w ↦ simp (w .best-is) (keeps laws _ _ _ _ _ (c .loop-i-test .taken) here (w .index-rows-b .is) (sym (w .if-takes-lead .ensures tt)) (simp (w .in-Some .is) at (c .loop-i .inv)))
       | else-qualifies w ↦ simp (w .best-is) (passes laws _ _ _ _ here (sym (w .if-qualifies .ensures tt)) (c .loop-i .inv))
     ]
 

@@ -1,4 +1,6 @@
+use mathlib.Core.Path.{ap, sym, _∙_}
 use native.Mathlib.Omega.{arith}
+use lib.ListN.{drop}
 use Rattle.texts.proofs.Cuts.{cut-at}
 use Rattle.texts.proofs.lines.first_piece.Needs as need
 
@@ -10,4 +12,5 @@ returns c =
       cut = λ some. cut-at (c .args .end) (c .args .bytes .now) _ (c .split-at .result .1 .now) some (rw is at (parts .front)) (rw is at (parts .back));
       some = λ some. omega (arith, c .piece-len .ensures .some some);
       len = omega arith;
+      back = parts .back ∙ ap (λ n. drop n (c .args .bytes .now)) (sym (parts .front-len));
     }
