@@ -39,11 +39,6 @@ to-end-leaves zero n (x ∷ xs) h e = take-at xs (x ∷ []) n (omega arith)
 to-end-leaves (suc i) zero (x ∷ xs) h e = absurd (omega arith)
 to-end-leaves (suc i) (suc n) (x ∷ xs) h e = ap (λ z. x ∷ z) (to-end-leaves i n xs (omega arith) (omega arith))
 
-pub replaced-to-end : (i : ℕ) (r : OrderRow) (xs : Line) → i < length xs → to-end i (replace-at i (r ∷ []) xs) ≡ replace-at i [] xs ++ r ∷ []
-replaced-to-end i r [] h = absurd (omega arith)
-replaced-to-end zero r (x ∷ xs) h = refl
-replaced-to-end (suc i) r (x ∷ xs) h = ap (λ z. x ∷ z) (replaced-to-end i r xs (omega arith))
-
 -- THE REPORT TABLE
 
 -- one row more

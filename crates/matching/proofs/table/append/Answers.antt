@@ -5,4 +5,4 @@ use Rattle.std.proofs.shelf.Lists.{take-more-set}
 use Rattle.matching.proofs.table.append.Needs as need
 
 pub returns : need.returns
-returns c = ap (λ r. take (c .args .len + 1) (set (c .args .rows .now) (c .args .len) r)) (c .row .ensures .value) ∙ take-more-set (c .args .rows .now) (c .args .len) (c .args .order .row) (c .pre)
+returns c = ap (take (c .args .len + 1)) (c .put .ensures ∙ ap (set (c .args .rows .now) (c .args .len)) (c .row .ensures .value)) ∙ take-more-set (c .args .rows .now) (c .args .len) (c .args .order .row) (c .pre)

@@ -5,4 +5,4 @@ use Rattle.matching.proofs.Edits.{set-replaces}
 use Rattle.matching.proofs.table.write.Needs as need
 
 pub returns : need.returns
-returns c = ap (λ r. take (c .args .len) (set (c .args .rows .now) (c .args .i) r)) (c .row .ensures .value) ∙ take-set-lt (c .args .len) (c .args .rows .now) (c .args .i) (c .args .order .row) (c .pre .0) ∙ set-replaces (c .args .i) (c .args .order .row) (take (c .args .len) (c .args .rows .now))
+returns c = ap (take (c .args .len)) (c .put .ensures ∙ ap (set (c .args .rows .now) (c .args .i)) (c .row .ensures .value)) ∙ take-set-lt (c .args .len) (c .args .rows .now) (c .args .i) (c .args .order .row) (c .pre .0) ∙ set-replaces (c .args .i) (c .args .order .row) (take (c .args .len) (c .args .rows .now))
