@@ -4,4 +4,4 @@ mod calls;
 mod edits;
 pub mod line;
 pub mod open;
-pub mod top;
+mod top;

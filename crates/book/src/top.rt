@@ -40,7 +40,7 @@ fn with_displayed(
 }
 
 // Sums the shares at the side's best display price over all rows of the line.
-pub fn best_displayed(line: &[OrderRow], side: Side) -> Option<(u32, u32)>
+pub(crate) fn best_displayed(line: &[OrderRow], side: Side) -> Option<(u32, u32)>
     requires { ⌜ all-formed (now line) ≡ true ⌝ ∗ ⌜ length (now line) ≤ 1024 ⌝ }
     ensures { λ r. ⌜ shares-at r ≤ 1000000 * length (now (line .entry)) ⌝ }
 {
