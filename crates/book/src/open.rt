@@ -4,9 +4,7 @@ ghost use lib.ListN.{length};
 ghost use Rattle.book.specs.Opening.{table-check};
 use market::refusal::Refusal;
 use market::row::OrderRow;
-
-// The most rows of a table that a book uses.
-pub const MOST_ROWS: usize = 1024;
+use matching::reprice::MOST_ROWS;
 
 // Refuses an order table of 0 rows, or of more than a book uses.
 pub fn check_order_table(rows: &[OrderRow]) -> Result<(), Refusal>

@@ -17,7 +17,7 @@ fn displayed_on(row: &OrderRow, side: Side) -> Option<u32> {
     }
 }
 
-// The best price so far with its shares, and a row of that price and those shares.
+// The best price so far and the shares at it, once a row that displays these shares at this price is counted.
 fn with_displayed(
     side: Side,
     best: Option<(u32, u32)>,

@@ -27,7 +27,7 @@ use rules::repricing::Pass;
 use rules::trading::Placed;
 
 // The most rows that a line has.
-const MOST_ROWS: usize = 1024;
+pub const MOST_ROWS: usize = 1024;
 
 // Whether the row has its turn in the pass.
 fn is_in_pass(quote: Quote, pass: Pass, row: &OrderRow) -> bool

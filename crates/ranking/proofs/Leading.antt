@@ -2,12 +2,11 @@
 use mathlib.Core.Path.{_≡_, refl}
 use mathlib.Core.Bool.{Bool, true, false}
 use mathlib.Core.List.{List}
-use mathlib.Core.Logic.{⊎-elim}
 use Prim.Native.Nat.{ℕ, _+_, _<_, _≤_}
 use native.Mathlib.Omega.{arith}
 use lib.ListN.{length, getD}
 use borrow.Author.Count.{below-more}
-use Rattle.std.proofs.shelf.Tests.{cases-bool, cases-lt, cases-order, both-ways}
+use Rattle.std.proofs.shelf.Tests.{cases-bool, cases-lt, both-ways}
 use Rattle.std.proofs.shelf.Maps.{nth-past, nth-read}
 use Rattle.std.specs.shelf.Maps.{nth}
 use Rattle.std.specs.declared.option.Option.{Option}
@@ -94,7 +93,3 @@ module _ {R : Type 0} {counts : R → Bool} {ahead : R → R → Bool} (laws : R
     },
     λ k l t. both-ways _ (t .unbeaten b (h .row) (h .here) (h .counted)) (h .first k l (t .row) (t .here) (t .counted)),
   )
-
--- there is one first
-pub first-one : {R : Type 0} {counts : R → Bool} {ahead : R → R → Bool} (xs : List R) (i j : ℕ) → First counts ahead xs (Some i) → First counts ahead xs (Some j) → i ≡ j
-first-one xs i j f g = ⊎-elim (λ e. e) (⊎-elim (λ l. absurd (g .1 i l (f .0))) (λ l. absurd (f .1 j l (g .0)))) (cases-order i j)

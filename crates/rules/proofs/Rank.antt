@@ -4,31 +4,16 @@ use mathlib.Core.Path.{_≡_, refl, sym, ap, subst, _∙_}
 use mathlib.Core.List.{List, [], _∷_}
 use Prim.Native.Nat.{ℕ, zero, suc, _<_}
 use native.Mathlib.Omega.{arith}
-use Rattle.std.proofs.shelf.Ways.{tells}
 use Rattle.std.specs.shelf.Maps.{nth}
 use Rattle.std.specs.declared.option.Option.{Option}
 use Rattle.std.specs.declared.option.Option.the-variants.{Some, None}
 use Rattle.market.specs.declared.side.Side.{Side}
-use Rattle.market.specs.declared.side.Side.the-variants.{Buy, Sell}
 use Rattle.market.specs.declared.row.OrderRow.{OrderRow}
-use Rattle.market.specs.Sides.{better}
 use Rattle.market.specs.Rows.{rests-on, outranks}
+use Rattle.market.proofs.Outranking.{outranks-irrefl, outranks-asym, behind-trans}
 use Rattle.rules.specs.declared.trading.Placed.{Placed}
 use Rattle.rules.specs.Lines.{Line, first-ranked, ahead-of, at-front, one-back}
 use Rattle.rules.proofs.Tests.{clash, none-some}
-
-pub outranks-irrefl : (side : Side) (a : OrderRow) → outranks side a a ≡ false
-outranks-irrefl Buy a = grind (arith, tells)
-outranks-irrefl Sell a = grind (arith, tells)
-
-pub outranks-asym : (side : Side) (a b : OrderRow) → outranks side a b ≡ true → outranks side b a ≡ false
-outranks-asym Buy a b h = grind (arith, tells)
-outranks-asym Sell a b h = grind (arith, tells)
-
--- not to be outranked is transitive
-pub outranks-trans : (side : Side) (a b c : OrderRow) → outranks side b a ≡ false → outranks side c b ≡ false → outranks side c a ≡ false
-outranks-trans Buy a b c h k = grind (arith, tells)
-outranks-trans Sell a b c h k = grind (arith, tells)
 
 pub record Top (side : Side) (line : Line) (p : Placed) : Type 0 where
   pub there : nth line (p .place) ≡ Some (p .row)
@@ -72,7 +57,7 @@ module _ (side : Side) (x : OrderRow) (xs : Line) where
     where
       go : (b : Bool) → rests-on side x ≡ b → (c : Bool) → outranks side (p .row) x ≡ c → Topped side (x ∷ xs) (cond (b && not c) (Some (at-front x)) (Some (one-back p)))
       go true e true d = passed p (λ _. d) f
-      go true e false d = front-first e (λ j r a h. outranks-trans side x (p .row) r d (f .above j r a h .0))
+      go true e false d = front-first e (λ j r a h. behind-trans side x (p .row) r d (f .above j r a h .0))
       go false e true d = passed p (λ _. d) f
       go false e false d = passed p (λ t. clash t e) f
 

@@ -6,10 +6,11 @@ use std::alloc::Global;
 use std::fs::File;
 use std::io;
 use std::io::Read;
+use transcript::session::MOST_BYTES;
 use transcript::session::session;
 
 // One byte more than a text may have, so that a longer text is seen to be longer.
-const MOST: usize = 65_537;
+const MOST: usize = MOST_BYTES + 1;
 
 // The first bytes of a source, `MOST` of them at most.
 fn read_bytes<R: Read + Drop>(heap: Global, source: R) -> io::Result<Vec<u8>>

@@ -37,7 +37,7 @@ pub const MOST_BYTES: usize = 65_536;
 
 const ORDER_ROWS: usize = 64;
 
-const REPORT_ROWS: usize = 129;
+const REPORT_ROWS: usize = 2 * ORDER_ROWS + 1;
 
 // The number of the session's book. It is never printed.
 const BOOK_NUMBER: u32 = 1;

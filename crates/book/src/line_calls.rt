@@ -1,4 +1,4 @@
-// The calls of a line, each with the checks that come before it.
+// The calls as they change a line: its table, its length and the highest number.
 ghost use mathlib.Core.Path.{_≡_};
 ghost use mathlib.Core.Bool.{true};
 ghost use Prim.Native.Nat.{_≤_};
