@@ -4,7 +4,7 @@
 usage: python3 tools/respell.py   at the top, once, after port.py
 
 It renames what a file of specs/ or proofs/ declares with a dash in its name. A dash before an operator stays (`replay-++`),
-and so do the names of goals and steps, which Rattle makes, and every name of src/.
+and so do the names of goals and steps, which Rattle makes, every name of src/, and comments.
 """
 
 import collections
@@ -57,7 +57,9 @@ def main():
     if clash:
         return 1
     for f, t in texts.items():
-        r = TOKEN.sub(lambda m: new.get(m[1], m[1]), t)
+        said = "//" if f.endswith(".rt") else "--"
+        lines = t.split("\n")
+        r = "\n".join(l if l.lstrip().startswith(said) else TOKEN.sub(lambda m: new.get(m[1], m[1]), l) for l in lines)
         if r != t:
             with open(f, "w", encoding="utf-8") as it:
                 it.write(r)

@@ -1,4 +1,6 @@
 // The words of the trade: sides, prices, quotes, orders, reports and refusals.
+#![tactic(auto)]
+
 pub mod order;
 pub mod price;
 pub mod quote;

@@ -1,4 +1,6 @@
 // The line of orders in a lent table: its edits, trade, arrival and repricing.
+#![tactic(auto)]
+
 pub mod arrival;
 pub mod find;
 pub mod prices;

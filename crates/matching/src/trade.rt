@@ -14,7 +14,7 @@ use market::side::Side;
 use ranking::ranked;
 use rules::trading::{Fill, Placed};
 
-// The first_ranked order that rests on the side.
+// The first-ranked order that rests on the side.
 fn first_on(line: &[OrderRow], side: Side) -> Option<Placed>
     ensures { result ≡ first_ranked side line.now }
 {

@@ -1,4 +1,4 @@
--- What a ranking is, and which row of a list is the first_ranked.
+-- What a ranking is, and which row of a list is the first-ranked.
 use Rattle.std.specs.Prelude.{◌≡◌, ℕ, ◌<◌, Bool, true, false, List, length, Some, None, Option}
 use Rattle.std.specs.List.{slice_get}
 

@@ -1,4 +1,4 @@
-// Rows that have a ranking, and the first_ranked row of a slice.
+// Rows that have a ranking, and the first-ranked row of a slice.
 ghost use Rattle.std.specs.Prelude.{◌≡◌, Bool};
 ghost use Rattle.ranking.specs.Ranking.{Ranking, First};
 
@@ -23,14 +23,14 @@ pub trait Ranked {
 
 // Whether a later row takes the lead: only if it outranks the leader, so that the earliest of tied rows keeps it.
 fn takes_lead<R: Ranked>(row: &R, leader: &R, view: R::View) -> bool
-    ensures { result ≡ ahead view row.now leader.now }
+    ensures { result ≡ R.ahead view row.now leader.now }
 {
     row.outranks(leader, view)
 }
 
 // The place of the earliest row that qualifies and that no row that qualifies outranks.
 pub fn first_ranked<R: Ranked>(rows: &[R], view: R::View) -> Option<usize>
-    ensures { First (counts view) (ahead view) rows.now result }
+    ensures { First (R.counts view) (R.ahead view) rows.now result }
 {
     let mut best: Option<usize> = None;
     for (i, row) in rows.iter().enumerate() {

@@ -1,4 +1,4 @@
--- The line of orders: the first_ranked row of a side, and the events that change the line and are reported.
+-- The line of orders: the first-ranked row of a side, and the events that change the line and are reported.
 use Rattle.std.specs.Prelude.{ℕ, zero, suc, ◌-◌, Bool, true, false, cond, not, ◌&&◌, List, [], ◌∷◌, ◌++◌, Some, None, Option, ◌==◌, nat_le}
 use Rattle.market.specs.declared.side.Side.{Side}
 use Rattle.market.specs.declared.row.OrderRow.{OrderRow}
@@ -36,7 +36,7 @@ at_front x = record { place = 0; row = x }
 abbrev pub one_back : Placed → Placed
 one_back p = record { place = suc p.place; row = p.row }
 
--- a row that rests on the side gives way to the first_ranked of the rows behind it only if that outranks it
+-- a row that rests on the side gives way to the first-ranked of the rows behind it only if that outranks it
 abbrev pub ahead_of : Side → OrderRow → Option Placed → Option Placed
 ahead_of side x None = cond (rests_on side x) (Some (at_front x)) None
 ahead_of side x (Some p) = cond (rests_on side x && not (outranks side p.row x)) (Some (at_front x)) (Some (one_back p))

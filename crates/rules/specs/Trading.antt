@@ -20,7 +20,7 @@ fill_with e bound (Some p) =
     (Some (record { trading = e; place = p.place; resting = p.row; shares = min e.shares p.row.shares }))
     None
 
--- the next fill is with the first_ranked row of the other side
+-- the next fill is with the first-ranked row of the other side
 abbrev pub next_fill : Entry → ℕ → Line → Option Fill
 next_fill e bound line = fill_with e bound (first_ranked (opposite e.side) line)
 

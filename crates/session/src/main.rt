@@ -1,4 +1,6 @@
 // Reads the quote file and the script, and prints the session's report.
+#![tactic(auto)]
+
 ghost use Rattle.std.specs.Prelude.{◌≤◌, IfOk, vec_len};
 
 use std::alloc::Global;

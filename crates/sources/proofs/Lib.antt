@@ -1,4 +1,3 @@
-pub mod Holding
 pub mod Formed
-pub mod BestPrice
-pub mod Tables
+pub mod Fronts
+pub mod Whole

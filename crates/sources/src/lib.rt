@@ -1,7 +1,7 @@
 // Where quotes come from.
-pub mod last;
-pub mod montage;
+#![tactic(auto)]
+
 pub mod source;
 pub mod tape;
-mod values;
-mod venues;
+#[cfg(test)]
+mod tests;

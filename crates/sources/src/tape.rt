@@ -1,21 +1,19 @@
-// A tape that is read where it lies.
-ghost use Rattle.std.specs.Prelude.{◌≡◌, true, ◌∷◌};
+// A tape that is read where it lies: a place in the lines of a text that is a tape.
+ghost use Rattle.std.specs.Prelude.{◌≡◌, ◌+◌, ◌<◌, ◌≤◌, true, length, drop};
 ghost use Rattle.market.specs.Quotes.{all_formed};
-ghost use Rattle.texts.specs.Tapes.{quote_line};
-ghost use Rattle.texts.specs.Places.{place};
-ghost use Rattle.sources.specs.Values.{readable, values};
-
-use market::quote::Quote;
-use texts::lines::Lines;
+ghost use Rattle.texts.specs.Pieces.{pieces};
+ghost use Rattle.sources.specs.Tapes.{quotes_from};
 
 mod reading;
 
 #[derive(Drop)]
 pub struct Tape<'a> {
-    // the lines behind that of the quote in force
-    lines: Lines<'a>,
-    // the quote in force
-    quote: Quote,
-    ghost good: { readable quote_line (place lines) ≡ true },
-    ghost formed: { all_formed (quote ∷ values quote_line (place lines)) ≡ true },
+    text: &'a [u8],
+    // where the line in force begins
+    place: usize,
+    // the number of that line
+    line: u32,
+    ghost counted: { line + length (pieces 10 (drop place text.now)) ≤ 65537 },
+    ghost some: { 0 < length (quotes_from line (drop place text.now)) },
+    ghost formed: { all_formed (quotes_from line (drop place text.now)) ≡ true },
 }

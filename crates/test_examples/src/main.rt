@@ -1,4 +1,6 @@
 // Runs the session of every example folder, and compares what it prints with what the folder expects.
+#![tactic(auto)]
+
 use std::{fs, io};
 use transcript::session::session;
 

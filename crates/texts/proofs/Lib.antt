@@ -1,3 +1,2 @@
-pub mod Reading
-pub mod Exactness
-pub mod Refusing
+pub mod Cuts
+pub mod Steps

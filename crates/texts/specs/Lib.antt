@@ -1,5 +1,8 @@
+pub mod Pieces
+pub mod Numbers
+pub mod FieldKinds
+pub mod Fields
+pub mod Cursors
 pub mod Texts
 pub mod Tapes
-pub mod Montages
-pub mod Places
-pub mod Written
+pub mod Scripts

@@ -1,6 +1,12 @@
-// Texts of lines, and the two formats of quotes: tapes and montages.
+// The texts that a session reads: tapes of quotes and scripts of calls, in lines of fields parted by commas.
+#![tactic(auto)]
+
+pub mod field;
+pub mod fields;
 pub mod lines;
-pub mod montage;
+pub mod number;
 pub mod refusal;
+pub mod script;
 pub mod tape;
-pub mod text;
+#[cfg(test)]
+mod tests;

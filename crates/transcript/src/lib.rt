@@ -1,4 +1,6 @@
 // The session: from the bytes of a quote file and of a script to the report that is printed.
+#![tactic(auto)]
+
 pub mod answer;
 pub mod each;
 pub mod session;

@@ -1,7 +1,6 @@
 // The session as a function of the bytes of its two texts.
-ghost use Rattle.std.specs.Prelude.{◌≡◌, true, length, IfOk, string_bytes};
+ghost use Rattle.std.specs.Prelude.{◌≡◌, ◌+◌, ◌≤◌, true, length, is_ok, IfOk, string_bytes};
 ghost use Rattle.book.specs.Held.{Counted};
-ghost use Rattle.transcript.specs.Limits.{sized, quotes_checked, calls_checked};
 ghost use Rattle.transcript.specs.Format.{transcript_text, begins_with_header};
 
 use crate::answer::{Answer, Closing, TopLine, Transcript};
@@ -10,11 +9,12 @@ use market::refusal::Refusal;
 use market::report::Report;
 use market::row::{Kind, OrderRow, State};
 use market::side::Side;
-use scripts::script::{Script, ScriptCall, check_script};
 use sources::source::QuoteSource;
 use sources::tape::Tape;
 use std::alloc::{AllocError, Global};
+use texts::lines::first_piece;
 use texts::refusal::TextRefusal;
+use texts::script::{ScriptCall, read_call, script_lines};
 use texts::tape::check_tape;
 
 // The most bytes of a text.
@@ -47,7 +47,7 @@ const UNUSED_REPORT: Report = Report::Cancelled {
 
 // Refuses a text that is too long, ahead of its other checks.
 fn check_size(text: &[u8]) -> Result<(), TextRefusal>
-    ensures { result ≡ sized text.now }
+    ensures { is_ok result ≡ true → length text.now ≤ 65536 }
 {
     if text.len() > MOST_BYTES {
         return Err(TextRefusal {
@@ -59,18 +59,17 @@ fn check_size(text: &[u8]) -> Result<(), TextRefusal>
     Ok(())
 }
 
-fn check_quotes(text: &[u8]) -> Result<(), TextRefusal>
-    ensures { result ≡ quotes_checked text.now }
-{
+fn check_quotes(text: &[u8]) -> Result<(), TextRefusal> {
     check_size(text)?;
     check_tape(text)
 }
 
-fn check_calls(text: &[u8]) -> Result<(), TextRefusal>
-    ensures { result ≡ calls_checked text.now }
+// The lines of the script behind its first.
+fn calls_of(text: &[u8]) -> Result<&[u8], TextRefusal>
+    ensures { IfOk result (λ lines. length lines.now ≤ 65536) }
 {
     check_size(text)?;
-    check_script(text)
+    script_lines(text)
 }
 
 fn perform<S: QuoteSource>(
@@ -98,13 +97,19 @@ fn answer<S: QuoteSource>(
     heap: Global,
     book: &mut Book,
     source: &mut S,
-    row: Result<ScriptCall, TextRefusal>,
+    bytes: &[u8],
     line: u32,
     reports: &mut [Report],
 ) -> Result<Answer, AllocError> {
-    let call = match row {
+    let call = match read_call(bytes) {
         Ok(call) => call,
-        Err(refused) => return Ok(Answer::of_text(refused)),
+        Err(fault) => {
+            return Ok(Answer::Refused {
+                refusal: fault.refusal,
+                line,
+                column: fault.column,
+            });
+        }
     };
     match perform(book, source, call, reports) {
         Ok(count) => {
@@ -119,22 +124,26 @@ fn answer<S: QuoteSource>(
     }
 }
 
-// Makes the calls of the script one after the other.
+// Makes the calls of the lines one after the other; the first is line 2 of the script.
 fn answer_all<S: QuoteSource>(
     heap: Global,
     book: &mut Book,
     source: &mut S,
-    script: &mut Script<'_>,
+    lines: &[u8],
     reports: &mut [Report],
-) -> Result<Vec<Answer>, AllocError> {
+) -> Result<Vec<Answer>, AllocError>
+    requires { length lines.now ≤ 65536 }
+{
     let mut answers = Vec::new(heap);
-    loop {
-        let line = script.number();
-        let Some(row) = script.next() else {
-            return Ok(answers);
-        };
-        answers.push(answer(heap, book, source, row, line, reports)?)?;
+    let mut rest = lines;
+    let mut line: u32 = 2;
+    while rest.len() > 0 {
+        let (bytes, after) = first_piece(rest, b'\n');
+        answers.push(answer(heap, book, source, bytes, line, reports)?)?;
+        rest = after;
+        line += 1;
     }
+    Ok(answers)
 }
 
 fn text_of(heap: Global, answers: &[Answer], closing: Closing) -> Result<String, AllocError>
@@ -148,7 +157,12 @@ fn text_of(heap: Global, answers: &[Answer], closing: Closing) -> Result<String,
 fn ended_early(heap: Global, refusal: TextRefusal) -> Result<String, AllocError>
     ensures { IfOk result (λ s. begins_with_header (string_bytes s) ≡ true) }
 {
-    let answers = vec![in heap; Answer::of_text(refusal)]?;
+    let refused = Answer::Refused {
+        refusal: refusal.refusal,
+        line: refusal.line,
+        column: refusal.column,
+    };
+    let answers = vec![in heap; refused]?;
     text_of(heap, answers.as_slice(), Closing::Early)
 }
 
@@ -156,12 +170,13 @@ fn run_calls<S: QuoteSource>(
     heap: Global,
     book: &mut Book,
     source: &mut S,
-    script: &mut Script<'_>,
+    lines: &[u8],
 ) -> Result<String, AllocError>
+    requires { length lines.now ≤ 65536 }
     ensures { IfOk result (λ s. begins_with_header (string_bytes s) ≡ true) }
 {
     let mut reports = [UNUSED_REPORT; REPORT_ROWS];
-    let answers = answer_all(heap, book, source, script, &mut reports)?;
+    let answers = answer_all(heap, book, source, lines, &mut reports)?;
     let closing = Closing::Tops {
         buy: TopLine {
             side: Side::Buy,
@@ -182,11 +197,12 @@ pub fn session(heap: Global, quotes: &[u8], script: &[u8]) -> Result<String, All
     if let Err(refusal) = check_quotes(quotes) {
         return ended_early(heap, refusal);
     }
-    if let Err(refusal) = check_calls(script) {
-        return ended_early(heap, refusal);
-    }
+    let lines = match calls_of(script) {
+        Ok(lines) => lines,
+        Err(refusal) => return ended_early(heap, refusal),
+    };
     let mut rows = [UNUSED_ROW; ORDER_ROWS];
     let mut book = Book::open(BOOK_NUMBER, &mut rows);
     let mut tape = Tape::over(quotes);
-    run_calls(heap, &mut book, &mut tape, &mut Script::over(script))
+    run_calls(heap, &mut book, &mut tape, lines)
 }

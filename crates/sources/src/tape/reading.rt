@@ -1,56 +1,67 @@
-ghost use Rattle.std.specs.Prelude.{◌≡◌, true};
-ghost use Rattle.std.proofs.Common.{zero-le, suc-le-suc};
-ghost use Rattle.texts.specs.Tapes.{quote_line};
-ghost use Rattle.texts.specs.Places.{place};
-ghost use Rattle.sources.specs.Sources.{or_stand_in};
-ghost use Rattle.sources.specs.Tapes.{tape_quotes};
-ghost use Rattle.sources.specs.Values.{readable, values};
-ghost use Rattle.sources.specs.Views.{tape_left};
+ghost use Rattle.std.specs.Prelude.{◌≡◌, drop};
+ghost use Rattle.sources.specs.Tapes.{tape_or_stand_in, quotes_in};
+ghost use Rattle.sources.specs.Views.{quotes_of};
 
-use crate::source::{QuoteSource, stand_in_for_none};
+use crate::source::QuoteSource;
 use crate::tape::Tape;
-use crate::values::next_value;
 use market::quote::Quote;
 use market::refusal::Refusal;
-use texts::lines::Lines;
-use texts::tape::tape_lines;
+use texts::lines::first_piece;
+use texts::tape::{HEADER, check_tape, read_quote};
+
+// The text itself if it is a tape, else a tape of one quote.
+fn tape_or_stand_in(text: &[u8]) -> &[u8]
+    ensures { result.now ≡ tape_or_stand_in text.now }
+{
+    match check_tape(text) {
+        Ok(()) => text,
+        Err(_) => b"bid,offer,ref\n0,0,100\n",
+    }
+}
 
 impl<'a> Tape<'a> {
-    // The quotes of the lines, which are all good; the one in their place where there are none.
-    fn of(mut lines: Lines<'a>) -> Tape<'a>
-        requires { readable quote_line (place lines) ≡ true }
-        ensures { tape_left result ≡ or_stand_in (values quote_line (place lines.entry)) }
+    // The quotes of the text; where it is no tape, one quote with no bid, no offer and the lowest reference.
+    pub fn over(text: &'a [u8]) -> Tape<'a>
+        ensures { quotes_of result ≡ quotes_in text.now }
     {
-        let quote = stand_in_for_none(next_value(&mut lines));
-        Tape { lines, quote }
+        Tape {
+            text: tape_or_stand_in(text),
+            place: HEADER.len(),
+            line: 2,
+        }
     }
 
-    // The quotes of the text; where it is no tape, the one quote that stands in for them.
-    pub fn over(text: &'a [u8]) -> Tape<'a>
-        ensures { tape_left result ≡ tape_quotes text.now }
+    // The text from the line in force on.
+    fn rest(&self) -> &'a [u8]
+        ensures { result.now ≡ drop self.now.place self.now.text.now }
     {
-        Tape::of(tape_lines(text))
+        let (_, rest) = self.text.split_at(self.place);
+        rest
     }
 }
 
 impl QuoteSource for Tape<'_> {
-    ghost quotes = { tape_left };
+    ghost quotes = { quotes_of };
 
-    ghost some = { λ s. suc-le-suc zero-le };
+    ghost some = { λ s. s.some };
 
     ghost formed = { λ s. s.formed };
 
     fn look(&self) -> Quote {
-        self.quote // in force
+        let (line, _) = first_piece(self.rest(), b'\n');
+        match read_quote(line) {
+            Ok(quote) => quote,
+            Err(_) => unreachable(),
+        }
     }
 
     fn advance(&mut self) -> Result<(), Refusal> {
-        match next_value(&mut self.lines) {
-            Some(quote) => {
-                self.quote = quote;
-                Ok(())
-            }
-            None => Err(Refusal::NoFurtherQuote),
+        let (line, after) = first_piece(self.rest(), b'\n');
+        if after.len() == 0 {
+            return Err(Refusal::NoFurtherQuote);
         }
+        self.place += line.len();
+        self.line += 1;
+        Ok(())
     }
 }

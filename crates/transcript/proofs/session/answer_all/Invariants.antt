@@ -1,6 +1,8 @@
-use Rattle.std.proofs.Common.{length}
-use Rattle.scripts.specs.Views.{calls_left}
+use Rattle.std.proofs.Common.{◌+◌, ◌≤◌, length}
 use Rattle.transcript.proofs.session.answer_all.Given as goal
 
-abbrev pub decreases-loop-row : goal.decreases-loop-row
-decreases-loop-row g l = length (calls_left l.script)
+abbrev pub invariant-loop-rest : goal.invariant-loop-rest
+invariant-loop-rest g l = l.line + length l.rest ≤ 65538
+
+abbrev pub decreases-loop-rest : goal.decreases-loop-rest
+decreases-loop-rest g l = length l.rest

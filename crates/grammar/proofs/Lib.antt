@@ -1,4 +1,0 @@
-pub mod Cuts
-pub mod Steps
-pub mod Spelling
-pub mod Columns

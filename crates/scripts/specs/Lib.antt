@@ -1,3 +1,0 @@
-pub mod Scripts
-pub mod Views
-pub mod Calls

@@ -1,2 +1,0 @@
-// Scripts of calls, in which each line is good or bad by itself.
-pub mod script;

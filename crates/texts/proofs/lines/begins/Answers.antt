@@ -1,0 +1,10 @@
+use Rattle.std.proofs.lemmas.Slice.Eq.{slice_eq-Decides, bytes_eq-Decides}
+use Rattle.std.proofs.lemmas.Bool.Decides.{same_from_decides, Decides-eqb}
+use Rattle.texts.proofs.lines.begins.Goals as goal
+
+pub returns : goal.returns
+returns c =
+    record {
+      is = same_from_decides _ _ (slice_eq-Decides Decides-eqb _ _ _ c.starts-with.ensures.value) (bytes_eq-Decides _ _);
+      within = c.starts-with.ensures.bound;
+    }

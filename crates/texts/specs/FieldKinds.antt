@@ -1,0 +1,54 @@
+-- The kinds of field, and what the bytes of each say.
+use Rattle.std.specs.Prelude.{ℕ, Bool, true, cond, ◌||◌, List, [], ◌∷◌, Some, None, Ok, Err, codes, Option, Result, ◌==◌, nat_le}
+use Rattle.std.specs.Str.{bytes_eq}
+use Rattle.market.specs.declared.refusal.Refusal.{Refusal}
+use Rattle.market.specs.declared.refusal.Refusal.TheVariants.{BadField, OutOfRange}
+use Rattle.market.specs.declared.side.Side.{Side}
+use Rattle.market.specs.declared.side.Side.TheVariants.{Buy, Sell}
+use Rattle.market.specs.declared.row.Kind.{Kind}
+use Rattle.market.specs.declared.row.Kind.TheVariants.{Limit, Ioc, Market, Hidden, NonRoutable}
+use Rattle.market.specs.Prices.{on_grid}
+use Rattle.texts.specs.declared.field.GridPrice.{GridPrice}
+use Rattle.texts.specs.declared.field.PriceOrNone.{PriceOrNone}
+use Rattle.texts.specs.declared.field.CallWord.{CallWord}
+use Rattle.texts.specs.declared.field.CallWord.TheVariants.{Enter, Amend, Cancel, Advance}
+use Rattle.texts.specs.declared.field.Unused.{Unused}
+use Rattle.texts.specs.Numbers.{number}
+
+-- a number in range, as the value that it stands for
+abbrev pub ranged : {X : Type 0} → (ℕ → Bool) → (ℕ → X) → Option ℕ → Result X Refusal
+ranged test value None = Err BadField
+ranged test value (Some n) = cond (test n) (Ok (value n)) (Err OutOfRange)
+
+abbrev pub number_field : List ℕ → Result ℕ Refusal
+number_field bs = ranged (λ _. true) (λ n. n) (number bs)
+
+abbrev pub firm_field : List ℕ → Result ℕ Refusal
+firm_field bs = ranged (λ n. nat_le n 65535) (λ n. n) (number bs)
+
+abbrev pub grid_price_field : List ℕ → Result GridPrice Refusal
+grid_price_field bs = ranged on_grid (λ n. record { price = n }) (number bs)
+
+-- a price, or none for 0
+abbrev pub priced : ℕ → Option ℕ
+priced n = cond (n == 0) None (Some n)
+
+abbrev pub price_or_none_field : List ℕ → Result PriceOrNone Refusal
+price_or_none_field bs = ranged (λ n. (n == 0) || on_grid n) (λ n. record { price = priced n }) (number bs)
+
+-- the value whose word the bytes are
+abbrev pub word : {X : Type 0} → List (List ℕ × X) → List ℕ → Result X Refusal
+word [] bs = Err BadField
+word (w ∷ ws) bs = cond (bytes_eq bs w.0) (Ok w.1) (word ws bs)
+
+abbrev pub side_field : List ℕ → Result Side Refusal
+side_field bs = word ((codes "buy", Buy) ∷ (codes "sell", Sell) ∷ []) bs
+
+abbrev pub kind_field : List ℕ → Result Kind Refusal
+kind_field bs = word ((codes "limit", Limit) ∷ (codes "ioc", Ioc) ∷ (codes "market", Market) ∷ (codes "hidden", Hidden) ∷ (codes "nonroute", NonRoutable) ∷ []) bs
+
+abbrev pub call_word_field : List ℕ → Result CallWord Refusal
+call_word_field bs = word ((codes "enter", Enter) ∷ (codes "amend", Amend) ∷ (codes "cancel", Cancel) ∷ (codes "advance", Advance) ∷ []) bs
+
+abbrev pub unused_field : List ℕ → Result Unused Refusal
+unused_field bs = word ((codes "-", record {}) ∷ []) bs

@@ -1,8 +1,0 @@
--- Where the reader of a text's lines stands.
-use Rattle.std.specs.Prelude.{drop}
-use Rattle.grammar.specs.Pieces.{pieces}
-use Rattle.texts.specs.declared.lines.Lines.{Lines}
-use Rattle.texts.specs.Texts.{Place}
-
-abbrev pub place : Lines → Place
-place l = record { number = l.number; left = pieces 10 (drop l.place l.bytes.now) }

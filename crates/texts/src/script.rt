@@ -1,0 +1,113 @@
+// Scripts: a first line, and up to 65,535 lines of a call each.
+ghost use Rattle.std.specs.Prelude.{◌≡◌};
+ghost use Rattle.texts.specs.Cursors.{cursor};
+ghost use Rattle.texts.specs.Scripts.{enter_fields, amend_fields, cancel_fields, advance_fields, call_line, script_lines};
+ghost use Rattle.std.specs.Result.{result_map_both};
+
+use crate::field::{CallWord, Unused};
+use crate::fields::{Fields, check_ended};
+use crate::lines::{MOST_LINES, value_lines};
+use crate::refusal::{Fault, TextRefusal};
+use market::row::Entry;
+
+// The first line, with its LF.
+pub const HEADER: &[u8; 40] = b"call,number,firm,side,kind,price,shares\n";
+
+#[derive(Clone, Copy)]
+pub enum ScriptCall {
+    Enter(Entry),
+    Amend {
+        number: u32,
+        price: u32,
+        shares: u32,
+    },
+    Cancel {
+        number: u32,
+    },
+    Advance,
+}
+
+// Each of these four reads the fields behind the call's word, to the end of the line.
+fn read_enter(mut fields: Fields<'_>) -> Result<ScriptCall, Fault>
+    ensures { result ≡ enter_fields (cursor fields.entry) }
+{
+    let number = fields.next()?;
+    let firm = fields.next()?;
+    let side = fields.next()?;
+    let kind = fields.next()?;
+    let limit = fields.next()?;
+    let shares = fields.next()?;
+    fields.end()?;
+    Ok(ScriptCall::Enter(Entry {
+        number,
+        firm,
+        side,
+        kind,
+        limit,
+        shares,
+    }))
+}
+
+fn read_amend(mut fields: Fields<'_>) -> Result<ScriptCall, Fault>
+    ensures { result ≡ amend_fields (cursor fields.entry) }
+{
+    let number = fields.next()?;
+    fields.next::<Unused>()?;
+    fields.next::<Unused>()?;
+    fields.next::<Unused>()?;
+    let price = fields.next()?;
+    let shares = fields.next()?;
+    fields.end()?;
+    Ok(ScriptCall::Amend {
+        number,
+        price,
+        shares,
+    })
+}
+
+fn read_cancel(mut fields: Fields<'_>) -> Result<ScriptCall, Fault>
+    ensures { result ≡ cancel_fields (cursor fields.entry) }
+{
+    let number = fields.next()?;
+    fields.next::<Unused>()?;
+    fields.next::<Unused>()?;
+    fields.next::<Unused>()?;
+    fields.next::<Unused>()?;
+    fields.next::<Unused>()?;
+    fields.end()?;
+    Ok(ScriptCall::Cancel { number })
+}
+
+fn read_advance(mut fields: Fields<'_>) -> Result<ScriptCall, Fault>
+    ensures { result ≡ advance_fields (cursor fields.entry) }
+{
+    fields.next::<Unused>()?;
+    fields.next::<Unused>()?;
+    fields.next::<Unused>()?;
+    fields.next::<Unused>()?;
+    fields.next::<Unused>()?;
+    fields.next::<Unused>()?;
+    fields.end()?;
+    Ok(ScriptCall::Advance)
+}
+
+// The call of a line, which has its LF.
+pub fn read_call(line: &[u8]) -> Result<ScriptCall, Fault>
+    ensures { result ≡ call_line line.now }
+{
+    check_ended(line)?;
+    let mut fields = Fields::of(line);
+    match fields.next()? {
+        CallWord::Enter => read_enter(fields),
+        CallWord::Amend => read_amend(fields),
+        CallWord::Cancel => read_cancel(fields),
+        CallWord::Advance => read_advance(fields),
+    }
+}
+
+// The value lines of a script. Each is good or bad by itself, as `read_call` says.
+pub fn script_lines(text: &[u8]) -> Result<&[u8], TextRefusal>
+    ensures { result_map_both (λ x. x.now) (λ e. e) result ≡ script_lines text.now }
+{
+    value_lines(text, HEADER, 0, MOST_LINES)
+}
