@@ -19,5 +19,5 @@ returns c =
     record {
       len = omega arith;
       formed = ap (λ n. all_formed (take n c.remove.new.rows)) len ∙ left_formed c.in-Some.found.place (take c.args.len c.args.rows.now) _ c.requires.1.1 c.remove.ensures;
-      within = subst (λ r. Counted r (length c.args.reports.now)) (sym c.accepted.ensures.1) (omega (arith, c.write-report-next.ensures.next));
+      within = subst (λ r. Counted r (length c.args.reports.now)) (sym c.accepted.ensures.1) (omega (arith, c.write_report-next.ensures.next));
     }

@@ -9,14 +9,14 @@ use Rattle.matching.proofs.reprice.first_pass.Goals as goal
 pub loop-number-init : goal.loop-number-init
 loop-number-init c = (refl, omega arith, made_none _ _ _, c.requires.1.1.0)
 
-pub reprice-falling-next-requires : goal.reprice-falling-next-requires
-reprice-falling-next-requires c =
+pub reprice_falling-next-requires : goal.reprice_falling-next-requires
+reprice_falling-next-requires c =
     let same = c.loop-number.auto.reports in
     (omega arith, (omega arith, (c.loop-number.invariant.3, c.requires.1.1.1)))
 
 pub loop-number-preserved : goal.loop-number-preserved
 loop-number-preserved c =
-    let e = c.reprice-falling-next.ensures in
+    let e = c.reprice_falling-next.ensures in
     (search rules, omega (arith, e.most), each_more (fall c.args.quote) c.args.numbers.now c.loop-number.number-index _ 0 refl c.loop-number-test.true c.loop-number.invariant.2 e.made (omega arith), e.formed)
 
 pub returns : goal.returns

@@ -3,16 +3,16 @@ use Rattle.std.proofs.lemmas.List.{take_all}
 use Rattle.rules.specs.Repricing.{numbers}
 use Rattle.matching.proofs.Gathering.{gathers, skips}
 use Rattle.matching.proofs.reprice.gather.Goals as goal
-use Rattle.matching.proofs.reprice.gather.Goals.{then-is-in-pass, else-is-in-pass}
+use Rattle.matching.proofs.reprice.gather.Goals.{then-is_in_pass, else-is_in_pass}
 
 pub loop-row-init : goal.loop-row-init
 loop-row-init c = (record { are = refl; counted = refl; few = omega arith }, refl)
 
 pub loop-row-preserved : goal.loop-row-preserved
 loop-row-preserved c =
-    elim c.if-is-in-pass.branch [
-      | then-is-in-pass w ↦ simp (w.numbers-is, w.count-is) (gathers c.loop-row.invariant.0 _ _ refl c.loop-row-test.true (sym w.if-is-in-pass.ensures) (omega (arith, c.loop-row.invariant.0.few)), simp length-set c.loop-row.invariant.1)
-      | else-is-in-pass w ↦ simp (w.numbers-is, w.count-is) (skips c.loop-row.invariant.0 _ _ refl c.loop-row-test.true (sym w.if-is-in-pass.ensures), c.loop-row.invariant.1)
+    elim c.if-is_in_pass.branch [
+      | then-is_in_pass w ↦ simp (w.numbers-is, w.count-is) (gathers c.loop-row.invariant.0 _ _ refl c.loop-row-test.true (sym w.if-is_in_pass.ensures) (omega (arith, c.loop-row.invariant.0.few)), simp length-set c.loop-row.invariant.1)
+      | else-is_in_pass w ↦ simp (w.numbers-is, w.count-is) (skips c.loop-row.invariant.0 _ _ refl c.loop-row-test.true (sym w.if-is_in_pass.ensures), c.loop-row.invariant.1)
     ]
 
 pub returns : goal.returns

@@ -18,32 +18,32 @@ facts c = following c.args.number (take c.args.len c.args.rows.now) c.in-Some.fo
 within : (c : In-Some) → c.in-Some.found.place < c.args.len
 within c = let size = length-take c.args.len c.args.rows.now in omega (arith, (facts c).within)
 
-pub returns-in-default : goal.returns-in-default
-returns-in-default c = record { made = rises_none c.args.quote c.args.number (take c.args.len c.args.rows.now) _ _ (simp sub-zero at c.in-default.ensures); formed = c.requires.1.1.0; len = omega arith; most = omega arith }
+pub returns-in_default : goal.returns-in_default
+returns-in_default c = record { made = rises_none c.args.quote c.args.number (take c.args.len c.args.rows.now) _ _ (simp sub-zero at c.in_default.ensures); formed = c.requires.1.1.0; len = omega arith; most = omega arith }
 
-pub write-report-next-requires : goal.write-report-next-requires
-write-report-next-requires c = omega (arith, within (goal.at.write-report-next-requires c).In-Some)
+pub write_report-next-requires : goal.write_report-next-requires
+write_report-next-requires c = omega (arith, within (goal.at.write_report-next-requires c).In-Some)
 
 pub remove-requires : goal.remove-requires
 remove-requires c = (within (goal.at.remove-requires c).In-Some, c.requires.0)
 
-pub overflow-sub-len : goal.overflow-sub-len
-overflow-sub-len c = omega (arith, within (goal.at.overflow-sub-len c).In-Some)
+pub overflow_sub-len : goal.overflow_sub-len
+overflow_sub-len c = omega (arith, within (goal.at.overflow_sub-len c).In-Some)
 
 pub trade-traded-requires : goal.trade-traded-requires
 trade-traded-requires c =
     let w = within (goal.at.trade-traded-requires c).In-Some in
     let same : length c.remove.new.rows ≡ length c.args.rows.now = search rules in
-    let size : length c.write-report-next.new.reports ≡ length c.args.reports.now = search rules in
-    (omega arith, (omega (arith, c.write-report-next.ensures.next), ap all_formed c.remove.ensures ∙ replace_formed c.in-Some.found.place [] (take c.args.len c.args.rows.now) c.requires.1.1.0 refl))
+    let size : length c.write_report-next.new.reports ≡ length c.args.reports.now = search rules in
+    (omega arith, (omega (arith, c.write_report-next.ensures.next), ap all_formed c.remove.ensures ∙ replace_formed c.in-Some.found.place [] (take c.args.len c.args.rows.now) c.requires.1.1.0 refl))
 
 pub returns-then-left-eq0 : goal.returns-then-left-eq0
 returns-then-left-eq0 c =
     let i = (goal.at.returns-then-left-eq0 c).In-Some in
     let w = within i in
     let t = c.trade-traded.ensures in
-    let n = c.write-report-next.ensures.next in
-    let table = c.write-report-next.ensures.table ∙ ap (λ r. written c.args.reports.now c.args.next (r ∷ [])) c.report-of.ensures in
+    let n = c.write_report-next.ensures.next in
+    let table = c.write_report-next.ensures.table ∙ ap (λ r. written c.args.reports.now c.args.next (r ∷ [])) c.report_of.ensures in
     record {
       made = rises_emptied c.args.quote c.args.number (take c.args.len c.args.rows.now) _ _ c.in-Some.found (found i) _ c.repriced-new.ensures _ c.entry.ensures _ _ _ _ _ _ c.remove.ensures table n t.made (omega arith) _ t.left t.within c.if-left-eq0.true;
       formed = t.formed;
@@ -56,8 +56,8 @@ known-requires c =
     let i = (goal.at.known-requires c).In-Some in
     let w = within i in
     let t = c.trade-traded.ensures in
-    let n = c.write-report-next.ensures.next in
-    let table = c.write-report-next.ensures.table ∙ ap (λ r. written c.args.reports.now c.args.next (r ∷ [])) c.report-of.ensures in
+    let n = c.write_report-next.ensures.next in
+    let table = c.write_report-next.ensures.table ∙ ap (λ r. written c.args.reports.now c.args.next (r ∷ [])) c.report_of.ensures in
     rest_formed c.args.quote c.args.number (take c.args.len c.args.rows.now) _ _ c.in-Some.found (found i) _ c.repriced-new.ensures _ c.entry.ensures _ _ _ _ _ _ c.remove.ensures table n t.made (omega arith) _ t.left t.within c.if-left-eq0.false _ refl
     (new_formed c.args.quote (facts i) c.requires.1.1.0 _ c.repriced-new.ensures)
 
@@ -72,8 +72,8 @@ returns c =
     let i = (goal.at.returns c).In-Some in
     let w = within i in
     let t = c.trade-traded.ensures in
-    let n = c.write-report-next.ensures.next in
-    let table = c.write-report-next.ensures.table ∙ ap (λ r. written c.args.reports.now c.args.next (r ∷ [])) c.report-of.ensures in
+    let n = c.write_report-next.ensures.next in
+    let table = c.write_report-next.ensures.table ∙ ap (λ r. written c.args.reports.now c.args.next (r ∷ [])) c.report_of.ensures in
     let some : 0 < c.trade-traded.result.left.shares = omega arith in
     record {
       made = rises_rests c.args.quote c.args.number (take c.args.len c.args.rows.now) _ _ c.in-Some.found (found i) _ c.repriced-new.ensures _ c.entry.ensures _ _ _ _ _ _ c.remove.ensures table n t.made (omega arith) _ t.left t.within c.if-left-eq0.false _ c.known.ensures _ c.append.ensures;

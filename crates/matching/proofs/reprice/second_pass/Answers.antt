@@ -9,14 +9,14 @@ use Rattle.matching.proofs.reprice.second_pass.Goals as goal
 pub loop-number-init : goal.loop-number-init
 loop-number-init c = (refl, omega arith, omega arith, made_none _ _ _, c.requires.1.1.0)
 
-pub reprice-rising-progress-requires : goal.reprice-rising-progress-requires
-reprice-rising-progress-requires c =
+pub reprice_rising-progress-requires : goal.reprice_rising-progress-requires
+reprice_rising-progress-requires c =
     let same = c.loop-number.auto.reports in
     (omega arith, (omega arith, (c.loop-number.invariant.4, c.requires.1.1.1)))
 
 pub loop-number-preserved : goal.loop-number-preserved
 loop-number-preserved c =
-    let e = c.reprice-rising-progress.ensures in
+    let e = c.reprice_rising-progress.ensures in
     (search rules, omega (arith, e.len), omega (arith, e.most), each_more (rise c.args.quote) c.args.numbers.now c.loop-number.number-index _ 0 refl c.loop-number-test.true c.loop-number.invariant.3 e.made (omega arith), e.formed)
 
 pub returns : goal.returns

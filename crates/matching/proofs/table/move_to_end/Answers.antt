@@ -8,7 +8,7 @@ use Rattle.matching.proofs.table.move_to_end.Goals as goal
 pub returns : goal.returns
 returns c =
     let r = rotated c.args.rows.now c.args.len c.args.i c.requires.0 in
-    let moved = take-put_mid c.args.i (c.args.len - c.args.i) c.args.rows.now c.rotate-left.new.self c.args.len (search (rules, overwrites)) (omega arith) ∙ simp c.rotate-left.ensures.after r in
+    let moved = take-put_mid c.args.i (c.args.len - c.args.i) c.args.rows.now c.rotate_left.new.self c.args.len (search (rules, overwrites)) (omega arith) ∙ simp c.rotate_left.ensures.after r in
     let shorter : c.args.len - 1 ≤ c.args.len = omega arith in
     let size = length-take c.args.len c.args.rows.now in
     record {

@@ -4,11 +4,11 @@ use Rattle.texts.proofs.lines.first_piece.Goals as goal
 
 pub returns : goal.returns
 returns c =
-    let is = c.piece-len.ensures.is in
-    let parts = c.split-at.ensures in
+    let is = c.piece_len.ensures.is in
+    let parts = c.split_at.ensures in
     record {
-      cut = λ some. cut_at c.args.end c.args.bytes.now _ c.split-at.result.1.now some (rw is at parts.front) (rw is at parts.back);
-      some = λ some. omega (arith, c.piece-len.ensures.some some);
+      cut = λ some. cut_at c.args.end c.args.bytes.now _ c.split_at.result.1.now some (rw is at parts.front) (rw is at parts.back);
+      some = λ some. omega (arith, c.piece_len.ensures.some some);
       len = omega arith;
-      back = parts.back ∙ ap (λ n. drop n c.args.bytes.now) (sym parts.front-len);
+      back = parts.back ∙ ap (λ n. drop n c.args.bytes.now) (sym parts.front_len);
     }

@@ -4,4 +4,4 @@ use Rattle.transcript.proofs.Sizes.{lines_within}
 use Rattle.transcript.proofs.session.calls_of.Goals as goal
 
 pub returns : goal.returns
-returns c = lines_within (λ x. x.now) script_header 0 65535 c.args.text.now 65536 c.script_lines.result c.script_lines.ensures (c.in-ok-check-size.ensures refl)
+returns c = lines_within (λ x. x.now) script_header 0 65535 c.args.text.now 65536 c.script_lines.result c.script_lines.ensures (c.in_ok-check_size.ensures refl)

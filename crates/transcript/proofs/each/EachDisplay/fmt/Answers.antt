@@ -10,7 +10,7 @@ loop-item-preserved g c plain =
     let before = c.loop-item.invariant plain in
     has_written_of_eq g.W.Write.write_str_gives _ _ _ _
     (joined_step g.T.Printed.text [] _ _ c.args.self.now.items.now _ _ _ c.item-item.is refl refl (omega arith))
-    (has_written_append g.W.Write.write_str_gives _ _ _ _ _ before (c.in-ok-print.ensures before.plain refl))
+    (has_written_append g.W.Write.write_str_gives _ _ _ _ _ before (c.in_ok-print.ensures before.plain refl))
 
 pub returns-clause-writes : goal.returns-clause-writes
 returns-clause-writes g c plain ok =
