@@ -27,7 +27,7 @@ fn folders(rt: &HostRuntime) -> io::Result<Vec<String>> {
         let entry = entry?;
         names.push(String::from_str(rt.alloc(), entry.file_name())?)?;
     }
-    names.sort();
+    names.sort()?;
     Ok(names)
 }
 
