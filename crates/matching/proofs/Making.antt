@@ -1,5 +1,5 @@
 -- Events that were made on a line and reported, one list after another.
-use Rattle.std.proofs.Common.{◌≡◌, ℕ, ◌+◌, ◌≤◌, List, [], ◌++◌, length, sym, ap, ◌∙◌, arith, length-append}
+use Rattle.std.proofs.Common.{ℕ, ◌≤◌, List, [], ◌++◌, length, sym, ap, ◌∙◌, arith, length-append}
 use Rattle.market.specs.declared.report.Report.{Report}
 use Rattle.rules.specs.Lines.{Line, Event, replay, all_reports}
 use Rattle.rules.proofs.Events.{replay-++, reports-++}

@@ -1,15 +1,15 @@
 -- The row that the search finds is the first-ranked row of the rules.
-use Rattle.std.proofs.Common.{◌≡◌, ℕ, ◌<◌, true, false, length, get_or, Some, None, Option, sym, refl, ap, ◌∙◌, subst, ⊎_elim, arith}
+use Rattle.std.proofs.Common.{◌≡◌, ℕ, ◌<◌, length, get_or, Some, None, Option, sym, refl, ap, ◌∙◌, ⊎_elim, arith}
 use Rattle.std.specs.List.{slice_get}
 use Rattle.std.proofs.lemmas.Option.{slice_get-get_or, slice_get_past}
 use Rattle.std.proofs.lemmas.Bool.{cases_order, cases_lt}
 use Rattle.market.specs.declared.side.Side.{Side}
 use Rattle.market.specs.declared.row.OrderRow.{OrderRow}
 use Rattle.market.specs.Rows.{rests_on, outranks}
-use Rattle.ranking.specs.Ranking.{First, Unbeaten}
+use Rattle.ranking.specs.Ranking.{First}
 use Rattle.rules.specs.declared.trading.Placed.{Placed}
 use Rattle.rules.specs.Lines.{Line, first_ranked}
-use Rattle.rules.proofs.Tests.{clash, none_some}
+use Rattle.rules.proofs.Tests.{clash}
 use Rattle.rules.proofs.Rank.{Top, Topped, topped}
 
 pub first_none : (side : Side) (line : Line) → First (rests_on side) (outranks side) line None → None ≡ first_ranked side line

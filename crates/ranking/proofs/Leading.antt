@@ -3,7 +3,7 @@ use Rattle.std.proofs.Common.{◌≡◌, ℕ, ◌+◌, ◌<◌, ◌≤◌, Bool,
 use Rattle.std.proofs.lemmas.Bool.{cases_Bool, cases_lt, both_ways}
 use Rattle.std.proofs.lemmas.Option.{slice_get_past, slice_get_read}
 use Rattle.std.specs.List.{slice_get}
-use Rattle.ranking.specs.Ranking.{Ranking, First, Unbeaten}
+use Rattle.ranking.specs.Ranking.{Ranking, First}
 
 -- The row at b leads the rows below n: it counts, none is ahead of it, and it is ahead of each before it.
 pub record Leader {R : Type 0} (counts : R → Bool) (ahead : R → R → Bool) (xs : List R) (n b : ℕ) : Type 0 where

@@ -1,5 +1,5 @@
 -- Every row that the rules put into a line of formed rows is formed.
-use Rattle.std.proofs.Common.{◌≡◌, ℕ, zero, suc, ◌-◌, ◌<◌, ◌≤◌, Bool, true, false, cond, ◌&&◌, leb, List, [], ◌∷◌, ◌++◌, Some, None, Option, sym, refl, ap, ◌∙◌, subst, arith}
+use Rattle.std.proofs.Common.{◌≡◌, ℕ, zero, suc, ◌-◌, ◌<◌, Bool, true, false, cond, leb, [], ◌∷◌, ◌++◌, Some, None, Option, sym, refl, ap, ◌∙◌, subst, arith}
 use Rattle.std.proofs.lemmas.Bool.Decides.{nat_tests}
 use Rattle.std.specs.List.{slice_get}
 use Rattle.market.specs.declared.side.Side.{Side}
@@ -11,12 +11,11 @@ use Rattle.market.specs.declared.row.State.TheVariants as state
 use Rattle.market.specs.declared.row.OrderRow.{OrderRow}
 use Rattle.market.specs.declared.row.Entry.{Entry}
 use Rattle.market.specs.declared.quote.Quote.{Quote}
-use Rattle.market.specs.Sides.{opposite, inside, tighter}
+use Rattle.market.specs.Sides.{opposite, inside}
 use Rattle.market.specs.Prices.{step_back}
 use Rattle.market.specs.Quotes.{away}
 use Rattle.market.specs.Rows.{row_of, is_resting, countable, displays_behind, well_priced, formed}
 use Rattle.rules.specs.declared.trading.Fill.{Fill}
-use Rattle.rules.specs.declared.arrival.Remainder.{Remainder}
 use Rattle.rules.specs.Lines.{Line, fills, less_shares, unfilled, after, replace_at, to_end, all_formed}
 use Rattle.rules.specs.Arrival.{limit_or_collar, held_to, bound, reached, reached_by, remainder_of, remainder, remainder_rows}
 use Rattle.rules.specs.Repricing.{at_prices, at_limit, at_away, slid, off_limit, is_at_limit, repriced_as, repriced, follows}

@@ -1,5 +1,5 @@
 -- `first-ranked` finds the row that no row of the side outranks and that outranks each row of the side before it.
-use Rattle.std.proofs.Common.{◌≡◌, ℕ, zero, suc, ◌<◌, Bool, true, false, cond, not, ◌&&◌, ◌||◌, List, [], ◌∷◌, Some, None, Option, sym, refl, ap, ◌∙◌, subst, arith}
+use Rattle.std.proofs.Common.{◌≡◌, ℕ, zero, suc, ◌<◌, Bool, true, false, cond, not, ◌&&◌, [], ◌∷◌, Some, None, Option, sym, refl, ap, ◌∙◌, subst, arith}
 use Rattle.std.specs.List.{slice_get}
 use Rattle.market.specs.declared.side.Side.{Side}
 use Rattle.market.specs.declared.row.OrderRow.{OrderRow}

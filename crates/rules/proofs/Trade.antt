@@ -13,7 +13,7 @@ use Rattle.rules.specs.declared.trading.Fill.{Fill}
 use Rattle.rules.specs.Lines.{Line, fills, first_ranked, less_shares, after, replace_at}
 use Rattle.rules.specs.Trading.{fewer, fill_with, next_fill, trade}
 use Rattle.rules.proofs.Tests.{or_left, clash, none_some}
-use Rattle.rules.proofs.Rank.{Top, Topped, topped, first_top}
+use Rattle.rules.proofs.Rank.{Topped, topped, first_top}
 
 abbrev pub placed : Fill → Placed
 placed f = record { place = f.place; row = f.resting }

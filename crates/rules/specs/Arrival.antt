@@ -1,5 +1,5 @@
 -- The arrival of an order in hand: its bound, its trade, and what becomes of the remainder.
-use Rattle.std.specs.Prelude.{◌≡◌, ℕ, Bool, true, false, cond, List, [], ◌∷◌, ◌++◌, Some, None, Option, ◌==◌}
+use Rattle.std.specs.Prelude.{ℕ, cond, List, [], ◌∷◌, ◌++◌, Some, None, Option, ◌==◌}
 use Rattle.market.specs.declared.side.Side.{Side}
 use Rattle.market.specs.declared.row.Kind.{Kind}
 use Rattle.market.specs.declared.row.Kind.TheVariants.{Limit, Ioc, Market, Hidden, NonRoutable}
@@ -11,7 +11,7 @@ use Rattle.market.specs.declared.report.Report.TheVariants.{Cancelled, Waiting, 
 use Rattle.market.specs.Sides.{inside, tighter}
 use Rattle.market.specs.Prices.{step_back, collar}
 use Rattle.market.specs.Quotes.{away}
-use Rattle.market.specs.Rows.{row_of, formed}
+use Rattle.market.specs.Rows.{row_of}
 use Rattle.rules.specs.declared.arrival.Remainder.{Remainder}
 use Rattle.rules.specs.declared.arrival.Remainder.TheVariants.{Cancels, Waits, Rests}
 use Rattle.rules.specs.declared.trading.Fill.{Fill}

@@ -1,5 +1,5 @@
 -- The line of orders: the first-ranked row of a side, and the events that change the line and are reported.
-use Rattle.std.specs.Prelude.{ℕ, zero, suc, ◌-◌, Bool, true, false, cond, not, ◌&&◌, List, [], ◌∷◌, ◌++◌, Some, None, Option, ◌==◌, nat_le}
+use Rattle.std.specs.Prelude.{ℕ, zero, suc, ◌-◌, Bool, true, cond, not, ◌&&◌, List, [], ◌∷◌, ◌++◌, Some, None, Option, ◌==◌, nat_le}
 use Rattle.market.specs.declared.side.Side.{Side}
 use Rattle.market.specs.declared.row.OrderRow.{OrderRow}
 use Rattle.market.specs.declared.report.Report.{Report}

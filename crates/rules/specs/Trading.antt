@@ -1,5 +1,5 @@
 -- The trade of an order in hand against the line.
-use Rattle.std.specs.Prelude.{ℕ, zero, suc, ◌+◌, ◌-◌, min, Bool, true, false, cond, ◌&&◌, List, [], ◌∷◌, length, Some, None, Option, nat_lt}
+use Rattle.std.specs.Prelude.{ℕ, zero, suc, ◌+◌, ◌-◌, min, cond, ◌&&◌, List, [], ◌∷◌, length, Some, None, Option, nat_lt}
 use Rattle.market.specs.declared.row.Entry.{Entry}
 use Rattle.market.specs.Sides.{opposite, inside}
 use Rattle.market.specs.Rows.{entry_with}

@@ -1,5 +1,5 @@
 -- The value lines of a text are no longer than the text.
-use Rattle.std.proofs.Common.{◌≡◌, ℕ, ◌≤◌, Bool, true, false, cond, ◌&&◌, leb, List, length, take, drop, IfOk, Ok, Err, Result, sym, refl, ap, arith, length-drop}
+use Rattle.std.proofs.Common.{◌≡◌, ℕ, ◌≤◌, Bool, true, false, cond, ◌&&◌, leb, List, length, take, drop, IfOk, Ok, Err, Result, ap, arith, length-drop}
 use Rattle.std.specs.Result.{result_map_both}
 use Rattle.std.specs.Str.{bytes_eq}
 use Rattle.market.specs.declared.refusal.Refusal.TheVariants.{FirstLine, LineCount}

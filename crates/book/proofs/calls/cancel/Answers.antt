@@ -1,7 +1,6 @@
-use Rattle.std.proofs.Common.{◌≡◌, length, take, Some, sym, ap, ◌∙◌, subst, arith, length-take}
+use Rattle.std.proofs.Common.{length, take, sym, ap, ◌∙◌, subst, arith, length-take}
 use native.Mathlib.Nat.{sub-zero}
 use Rattle.rules.specs.Lines.{all_formed}
-use Rattle.rules.specs.Lines as lines
 use Rattle.book.specs.Held.{Counted}
 use Rattle.book.proofs.Standing.{Standing, standing, left_formed}
 use Rattle.book.proofs.calls.cancel.Goals as goal

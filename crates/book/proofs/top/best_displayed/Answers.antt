@@ -1,4 +1,4 @@
-use Rattle.std.proofs.Common.{◌≡◌, arith}
+use Rattle.std.proofs.Common.{arith}
 use Rattle.book.specs.Held.{shares_at}
 use Rattle.book.proofs.Standing.{sum_fits, sum_more}
 use Rattle.book.proofs.top.best_displayed.Goals as goal

@@ -1,4 +1,4 @@
-use Rattle.std.proofs.Common.{length, take, sym, refl, ap, subst, arith, rules}
+use Rattle.std.proofs.Common.{take, refl, subst, arith, rules}
 use Rattle.std.proofs.lemmas.List.{take_all}
 use Rattle.rules.specs.Repricing.{fall, each}
 use Rattle.matching.specs.Tables.{Made}

@@ -1,7 +1,6 @@
-use Rattle.std.proofs.Common.{◌≡◌, ◌+◌, ◌-◌, ◌<◌, ◌≤◌, true, [], ◌∷◌, ◌++◌, length, take, Some, None, sym, refl, ap, ◌∙◌, arith, length-take, rules}
+use Rattle.std.proofs.Common.{◌≡◌, ◌<◌, [], ◌∷◌, length, take, Some, refl, ap, ◌∙◌, arith, length-take, rules}
 use native.Mathlib.Nat.{sub-zero}
-use Rattle.market.specs.Rows.{formed}
-use Rattle.rules.specs.Lines.{replace_at, all_formed}
+use Rattle.rules.specs.Lines.{all_formed}
 use Rattle.rules.specs.Repricing.{follower}
 use Rattle.rules.proofs.Formed.{replace_formed, append_formed, one_formed}
 use Rattle.matching.specs.Tables.{written}

@@ -1,4 +1,4 @@
-use Rattle.std.proofs.Common.{length, take, refl, subst, arith, rules}
+use Rattle.std.proofs.Common.{take, refl, subst, arith, rules}
 use Rattle.std.proofs.lemmas.List.{take_all}
 use Rattle.rules.specs.Repricing.{rise, each}
 use Rattle.matching.specs.Tables.{Made}

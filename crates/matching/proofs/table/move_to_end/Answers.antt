@@ -1,7 +1,6 @@
-use Rattle.std.proofs.Common.{◌≡◌, ◌-◌, ◌≤◌, take, sym, ap, ◌∙◌, arith, length-take, rules}
+use Rattle.std.proofs.Common.{◌-◌, ◌≤◌, take, sym, ap, ◌∙◌, arith, length-take, rules}
 use Rattle.std.proofs.lemmas.List.{take-take}
 use Rattle.std.proofs.lemmas.Slice.{take-put_mid, overwrites}
-use Rattle.rules.specs.Lines.{to_end}
 use Rattle.matching.proofs.Edits.{rotated, to_end_leaves}
 use Rattle.matching.proofs.table.move_to_end.Goals as goal
 

@@ -1,4 +1,4 @@
-use Rattle.std.proofs.Common.{◌≡◌, ◌+◌, ◌<◌, ◌≤◌, true, length, take, Some, None, sym, refl, ap, ◌∙◌, arith, length-take, rules}
+use Rattle.std.proofs.Common.{◌≡◌, ◌+◌, length, take, Some, sym, refl, ap, ◌∙◌, arith, length-take, rules}
 use native.Mathlib.Nat.{sub-zero}
 use Rattle.rules.specs.Lines.{replay, all_reports, all_formed}
 use Rattle.rules.specs.Trading.{next_fill, total, fewer, fill_events}

@@ -1,4 +1,4 @@
-use Rattle.std.proofs.Common.{◌≡◌, true, false, sym, refl, ◌∙◌, arith, rules}
+use Rattle.std.proofs.Common.{sym, refl}
 use Rattle.std.proofs.lemmas.Option.{slice_get_read}
 use Rattle.ranking.proofs.Leading.{passes, keeps, starts, takes, ends}
 use Rattle.ranking.proofs.ranked.first_ranked.Goals as goal

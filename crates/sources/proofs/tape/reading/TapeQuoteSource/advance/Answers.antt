@@ -1,4 +1,4 @@
-use Rattle.std.proofs.Common.{◌≡◌, ◌+◌, length, drop, sym, ap, ◌∙◌, arith, length-drop, rules}
+use Rattle.std.proofs.Common.{◌+◌, length, drop, sym, ap, ◌∙◌, arith, length-drop, rules}
 use Rattle.sources.specs.Tapes.{quotes_from}
 use Rattle.sources.proofs.Formed.{quotes_formed}
 use Rattle.sources.proofs.Fronts.{front_at, left_after, place_within, some_bytes, some_read, stays, goes}

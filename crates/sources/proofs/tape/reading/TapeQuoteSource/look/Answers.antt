@@ -1,5 +1,5 @@
 use Rattle.std.proofs.Common.{arith}
-use Rattle.sources.proofs.Fronts.{Front, front_at}
+use Rattle.sources.proofs.Fronts.{front_at}
 use Rattle.sources.proofs.tape.reading.TapeQuoteSource.look.Goals as goal
 
 pub unreachable-requires : goal.unreachable-requires
