@@ -1,3 +1,5 @@
-pub mod Sources
 pub mod Tapes
+pub mod Sources
+pub mod Values
+pub mod Montages
 pub mod Views

@@ -1,2 +1,11 @@
 pub mod Cuts
 pub mod Steps
+pub mod Decimals
+pub mod FieldsWritten
+pub mod Columns
+pub mod Spelling
+pub mod LinesWritten
+pub mod CallsWritten
+pub mod Exactness
+pub mod Refusing
+pub mod Reading

@@ -6,3 +6,7 @@ pub mod Cursors
 pub mod Texts
 pub mod Tapes
 pub mod Scripts
+pub mod Writing
+pub mod Montages
+pub mod Places
+pub mod Views

@@ -1,5 +1,5 @@
 -- How a number is written.
-use Rattle.std.specs.Prelude.{ℕ, ◌+◌, ◌-◌, ◌*◌, Bool, cond, not, ◌&&◌, ◌||◌, List, [], ◌∷◌, length, Some, None, Option, ◌==◌, nat_le, nat_lt, slice_index}
+use Rattle.std.specs.Prelude.{◌≡◌, ℕ, ◌+◌, ◌-◌, ◌*◌, ◌<◌, Bool, cond, not, ◌&&◌, ◌||◌, List, [], ◌∷◌, length, Some, None, decimal, Option, ◌==◌, ◌≢◌, nat_le, nat_lt, slice_index}
 
 abbrev pub digit : ℕ → Bool
 digit c = nat_le 48 c && nat_le c 57
@@ -20,3 +20,8 @@ below m (Some n) = cond (nat_lt n m) (Some n) None
 -- the number that cs writes
 abbrev pub number : List ℕ → Option ℕ
 number cs = cond (sized cs) (below 4294967296 (digits 0 cs)) None
+
+-- the law of numbers: those below 2^32, each as the standard library prints it, and no other bytes
+abbrev pub Decimal : List ℕ → Option ℕ → Type 0
+Decimal cs (Some n) = (n < 4294967296) × (cs ≡ decimal n)
+Decimal cs None = (n : ℕ) → n < 4294967296 → cs ≢ decimal n

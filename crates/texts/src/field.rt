@@ -2,13 +2,14 @@
 ghost use Rattle.std.specs.Prelude.{◌≡◌, ℕ, List, Result};
 ghost use Rattle.std.specs.Str.{bytes_eq};
 ghost use Rattle.market.specs.declared.refusal.Refusal.{Refusal};
-ghost use Rattle.texts.specs.FieldKinds.{number_field, firm_field, side_field, kind_field, call_word_field, unused_field, grid_price_field, price_or_none_field};
+ghost use Rattle.texts.specs.FieldKinds.{number_field, firm_field, side_field, kind_field, call_word_field, unused_field, grid_price_field, price_or_none_field, venue_number_field};
 
 use crate::number::read_number;
 use market::price::is_on_grid;
 use market::refusal::Refusal;
 use market::row::Kind;
 use market::side::Side;
+use market::venue::is_venue;
 
 pub trait Field: Sized {
     ghost meaning: { List ℕ → Result Self Refusal };
@@ -28,6 +29,12 @@ pub struct GridPrice {
 #[derive(Clone, Copy)]
 pub struct PriceOrNone {
     pub price: Option<u32>,
+}
+
+// The number of a venue, 1 to 16.
+#[derive(Clone, Copy)]
+pub struct VenueNumber {
+    pub number: u32,
 }
 
 // The word that a line of a script begins with.
@@ -93,6 +100,18 @@ impl Field for PriceOrNone {
         match read_number(field) {
             Some(0) => Ok(PriceOrNone { price: None }),
             Some(price) if is_on_grid(price) => Ok(PriceOrNone { price: Some(price) }),
+            Some(_) => Err(Refusal::OutOfRange),
+            None => Err(Refusal::BadField),
+        }
+    }
+}
+
+impl Field for VenueNumber {
+    ghost meaning = { venue_number_field };
+
+    fn read(field: &[u8]) -> Result<VenueNumber, Refusal> {
+        match read_number(field) {
+            Some(number) if is_venue(number) => Ok(VenueNumber { number }),
             Some(_) => Err(Refusal::OutOfRange),
             None => Err(Refusal::BadField),
         }

@@ -4,7 +4,9 @@
 pub mod field;
 pub mod fields;
 pub mod lines;
+pub mod montage;
 pub mod number;
+pub mod reader;
 pub mod refusal;
 pub mod script;
 pub mod tape;

@@ -1,9 +1,8 @@
 // Numbers as they are written.
 ghost use Rattle.std.specs.Prelude.{◌≡◌};
-ghost use Rattle.texts.specs.Numbers.{number};
+ghost use Rattle.texts.specs.Numbers.{number, Decimal};
 
-// The number that the bytes write: 0, or up to ten digits with no zero in front, below 2^32.
-pub fn read_number(field: &[u8]) -> Option<u32>
+fn read(field: &[u8]) -> Option<u32>
     ensures { result ≡ number field.now }
 {
     if field.len() == 0 || field.len() > 10 {
@@ -20,4 +19,12 @@ pub fn read_number(field: &[u8]) -> Option<u32>
         value = value * 10 + u64::from(*b - b'0');
     }
     u32::try_from(value).ok()
+}
+
+// The number that the bytes write: 0, or up to ten digits with no zero in front, below 2^32.
+pub fn read_number(field: &[u8]) -> Option<u32>
+    ensures value { result ≡ number field.now }
+    ensures law { Decimal field.now result }
+{
+    read(field)
 }

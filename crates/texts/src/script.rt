@@ -1,14 +1,20 @@
 // Scripts: a first line, and up to 65,535 lines of a call each.
-ghost use Rattle.std.specs.Prelude.{◌≡◌};
+ghost use Rattle.std.specs.Prelude.{◌≡◌, ◌<◌, length};
 ghost use Rattle.texts.specs.Cursors.{cursor};
-ghost use Rattle.texts.specs.Scripts.{enter_fields, amend_fields, cancel_fields, advance_fields, call_line, script_lines};
+ghost use Rattle.texts.specs.Fields.{AtAByte};
+ghost use Rattle.texts.specs.Scripts.{enter_fields, amend_fields, cancel_fields, advance_fields, call_line, call_text, is_call, script_lines};
+ghost use Rattle.texts.specs.Writing.{one_line, Written};
 ghost use Rattle.std.specs.Result.{result_map_both};
 
 use crate::field::{CallWord, Unused};
 use crate::fields::{Fields, check_ended};
-use crate::lines::{MOST_LINES, value_lines};
+use crate::lines::{Line, MOST_LINES, value_lines};
 use crate::refusal::{Fault, TextRefusal};
 use market::row::Entry;
+
+mod reader;
+
+pub use reader::{Script, check_script};
 
 // The first line, with its LF.
 pub const HEADER: &[u8; 40] = b"call,number,firm,side,kind,price,shares\n";
@@ -91,8 +97,7 @@ fn read_advance(mut fields: Fields<'_>) -> Result<ScriptCall, Fault>
     Ok(ScriptCall::Advance)
 }
 
-// The call of a line, which has its LF.
-pub fn read_call(line: &[u8]) -> Result<ScriptCall, Fault>
+fn call_of(line: &[u8]) -> Result<ScriptCall, Fault>
     ensures { result ≡ call_line line.now }
 {
     check_ended(line)?;
@@ -102,6 +107,24 @@ pub fn read_call(line: &[u8]) -> Result<ScriptCall, Fault>
         CallWord::Amend => read_amend(fields),
         CallWord::Cancel => read_cancel(fields),
         CallWord::Advance => read_advance(fields),
+    }
+}
+
+// The call of a line, which has its LF. Laws: a line is read just if it is its call written out, and a fault is at a
+// byte of its line.
+pub fn read_call(line: &[u8]) -> Result<ScriptCall, Fault>
+    ensures value { result ≡ call_line line.now }
+    ensures law { Written one_line call_line call_text is_call }
+    ensures place { 0 < length line.now → AtAByte (length line.now) result }
+{
+    call_of(line)
+}
+
+impl Line for ScriptCall {
+    ghost meaning = { call_line };
+
+    fn read(line: &[u8]) -> Result<ScriptCall, Fault> {
+        read_call(line)
     }
 }
 

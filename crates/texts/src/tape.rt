@@ -1,7 +1,10 @@
 // Tapes: a first line, and one to 65,535 lines of a quote each.
-ghost use Rattle.std.specs.Prelude.{◌≡◌};
-ghost use Rattle.texts.specs.Tapes.{quote_line, tape};
-ghost use Rattle.texts.specs.Texts.{checked};
+ghost use Rattle.std.specs.Prelude.{◌≡◌, length, drop};
+ghost use Rattle.market.specs.Quotes.{formed};
+ghost use Rattle.texts.specs.Cursors.{cursor};
+ghost use Rattle.texts.specs.Pieces.{pieces};
+ghost use Rattle.texts.specs.Tapes.{quote_fields, quote_line, quote_text, tape_header, tape};
+ghost use Rattle.texts.specs.Texts.{checked, Exact, Placed};
 
 use crate::field::{GridPrice, PriceOrNone};
 use crate::fields::{Fields, check_ended};
@@ -12,12 +15,10 @@ use market::quote::Quote;
 // The first line, with its LF.
 pub const HEADER: &[u8; 14] = b"bid,offer,ref\n";
 
-// The quote of a line, which has its LF.
-pub fn read_quote(line: &[u8]) -> Result<Quote, Fault>
-    ensures { result ≡ quote_line line.now }
+// The fields of a quote, to the end of the line.
+pub(crate) fn read_fields(mut fields: Fields<'_>) -> Result<Quote, Fault>
+    ensures { result ≡ quote_fields (cursor fields.entry) }
 {
-    check_ended(line)?;
-    let mut fields = Fields::of(line);
     let bid: PriceOrNone = fields.next()?;
     let offer: PriceOrNone = fields.next()?;
     let reference: GridPrice = fields.next()?;
@@ -27,6 +28,14 @@ pub fn read_quote(line: &[u8]) -> Result<Quote, Fault>
         offer: offer.price,
         reference: reference.price,
     })
+}
+
+// The quote of a line, which has its LF.
+pub fn read_quote(line: &[u8]) -> Result<Quote, Fault>
+    ensures { result ≡ quote_line line.now }
+{
+    check_ended(line)?;
+    read_fields(Fields::of(line))
 }
 
 impl Line for Quote {
@@ -39,7 +48,9 @@ impl Line for Quote {
 
 // Refuses a text that is no tape.
 pub fn check_tape(text: &[u8]) -> Result<(), TextRefusal>
-    ensures { result ≡ checked (tape text.now) }
+    ensures answer { result ≡ checked (tape text.now) }
+    ensures law { Exact tape_header quote_line quote_text formed 1 65535 text.now }
+    ensures place { Placed (pieces 10 (drop (length tape_header) text.now)) result }
 {
     check_text::<Quote>(text, HEADER, 1, MOST_LINES)
 }

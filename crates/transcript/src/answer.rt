@@ -7,6 +7,7 @@ use market::refusal::Refusal;
 use market::report::Report;
 use market::side::Side;
 use std::fmt;
+use texts::refusal::TextRefusal;
 
 impl Printed for Report {
     ghost text = { report_line };
@@ -57,6 +58,19 @@ pub enum Answer {
         column: usize,
     },
     Reported(Vec<Report>),
+}
+
+impl Answer {
+    // The answer to a text, or to a line of it, that is refused.
+    pub fn of_text(refused: TextRefusal) -> Answer
+        ensures { result ≡ Answer.Refused refused.refusal refused.line refused.column }
+    {
+        Answer::Refused {
+            refusal: refused.refusal,
+            line: refused.line,
+            column: refused.column,
+        }
+    }
 }
 
 impl Printed for Answer {

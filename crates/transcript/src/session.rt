@@ -1,6 +1,8 @@
 // The session as a function of the bytes of its two texts.
 ghost use Rattle.std.specs.Prelude.{◌≡◌, ◌+◌, ◌≤◌, true, length, is_ok, IfOk, string_bytes};
 ghost use Rattle.book.specs.Held.{Counted};
+ghost use Rattle.std.specs.Result.{result_map_both};
+ghost use Rattle.transcript.specs.Limits.{sized, quotes_checked, calls_lines};
 ghost use Rattle.transcript.specs.Format.{transcript_text, begins_with_header};
 
 use crate::answer::{Answer, Closing, TopLine, Transcript};
@@ -47,7 +49,8 @@ const UNUSED_REPORT: Report = Report::Cancelled {
 
 // Refuses a text that is too long, ahead of its other checks.
 fn check_size(text: &[u8]) -> Result<(), TextRefusal>
-    ensures { is_ok result ≡ true → length text.now ≤ 65536 }
+    ensures answer { result ≡ sized text.now }
+    ensures within { is_ok result ≡ true → length text.now ≤ 65536 }
 {
     if text.len() > MOST_BYTES {
         return Err(TextRefusal {
@@ -59,14 +62,17 @@ fn check_size(text: &[u8]) -> Result<(), TextRefusal>
     Ok(())
 }
 
-fn check_quotes(text: &[u8]) -> Result<(), TextRefusal> {
+fn check_quotes(text: &[u8]) -> Result<(), TextRefusal>
+    ensures { result ≡ quotes_checked text.now }
+{
     check_size(text)?;
     check_tape(text)
 }
 
 // The lines of the script behind its first.
 fn calls_of(text: &[u8]) -> Result<&[u8], TextRefusal>
-    ensures { IfOk result (λ lines. length lines.now ≤ 65536) }
+    ensures lines { result_map_both (λ x. x.now) (λ e. e) result ≡ calls_lines text.now }
+    ensures within { IfOk result (λ lines. length lines.now ≤ 65536) }
 {
     check_size(text)?;
     script_lines(text)
@@ -104,11 +110,11 @@ fn answer<S: QuoteSource>(
     let call = match read_call(bytes) {
         Ok(call) => call,
         Err(fault) => {
-            return Ok(Answer::Refused {
+            return Ok(Answer::of_text(TextRefusal {
                 refusal: fault.refusal,
                 line,
                 column: fault.column,
-            });
+            }));
         }
     };
     match perform(book, source, call, reports) {
@@ -157,12 +163,7 @@ fn text_of(heap: Global, answers: &[Answer], closing: Closing) -> Result<String,
 fn ended_early(heap: Global, refusal: TextRefusal) -> Result<String, AllocError>
     ensures { IfOk result (λ s. begins_with_header (string_bytes s) ≡ true) }
 {
-    let refused = Answer::Refused {
-        refusal: refusal.refusal,
-        line: refusal.line,
-        column: refusal.column,
-    };
-    let answers = vec![in heap; refused]?;
+    let answers = vec![in heap; Answer::of_text(refusal)]?;
     text_of(heap, answers.as_slice(), Closing::Early)
 }
 
