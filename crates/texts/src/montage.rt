@@ -39,13 +39,19 @@ impl Line for VenueQuote {
     }
 }
 
+fn check(text: &[u8]) -> Result<(), TextRefusal>
+    ensures { result ≡ checked (montage text.now) }
+{
+    check_text::<VenueQuote>(text, HEADER, 1, MOST_LINES)
+}
+
 // Refuses a text that is no montage.
 pub fn check_montage(text: &[u8]) -> Result<(), TextRefusal>
     ensures answer { result ≡ checked (montage text.now) }
     ensures law { Exact montage_header venue_line venue_text is_venue_quote 1 65535 text.now }
     ensures place { Placed (pieces 10 (drop (length montage_header) text.now)) result }
 {
-    check_text::<VenueQuote>(text, HEADER, 1, MOST_LINES)
+    check(text)
 }
 
 // The value lines of a montage; none where the text is refused.

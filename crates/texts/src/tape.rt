@@ -46,11 +46,17 @@ impl Line for Quote {
     }
 }
 
+fn check(text: &[u8]) -> Result<(), TextRefusal>
+    ensures { result ≡ checked (tape text.now) }
+{
+    check_text::<Quote>(text, HEADER, 1, MOST_LINES)
+}
+
 // Refuses a text that is no tape.
 pub fn check_tape(text: &[u8]) -> Result<(), TextRefusal>
     ensures answer { result ≡ checked (tape text.now) }
     ensures law { Exact tape_header quote_line quote_text formed 1 65535 text.now }
     ensures place { Placed (pieces 10 (drop (length tape_header) text.now)) result }
 {
-    check_text::<Quote>(text, HEADER, 1, MOST_LINES)
+    check(text)
 }

@@ -12,4 +12,4 @@ returns-clause-law c = exact venue_written montage_header 1 65535 c.args.text.no
 
 pub returns-clause-place : goal.returns-clause-place
 returns-clause-place c =
-    subst (Placed (pieces 10 (drop (length montage_header) c.args.text.now))) (sym c.check_text.ensures) (placed venue_line venue_placed montage_header 1 65535 c.args.text.now)
+    subst (Placed (pieces 10 (drop (length montage_header) c.args.text.now))) (sym c.check.ensures) (placed venue_line venue_placed montage_header 1 65535 c.args.text.now)

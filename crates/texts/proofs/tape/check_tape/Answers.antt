@@ -12,4 +12,4 @@ returns-clause-law c = exact quote_written tape_header 1 65535 c.args.text.now
 
 pub returns-clause-place : goal.returns-clause-place
 returns-clause-place c =
-    subst (Placed (pieces 10 (drop (length tape_header) c.args.text.now))) (sym c.check_text.ensures) (placed quote_line quote_placed tape_header 1 65535 c.args.text.now)
+    subst (Placed (pieces 10 (drop (length tape_header) c.args.text.now))) (sym c.check.ensures) (placed quote_line quote_placed tape_header 1 65535 c.args.text.now)
