@@ -1,4 +1,4 @@
-// The words of the trade: sides, prices, quotes, orders, reports and refusals.
+// The words of the trade: sides, prices, quotes, venues, orders, reports and refusals.
 #![tactic(auto)]
 
 pub mod order;

@@ -1,4 +1,4 @@
--- `first-ranked` finds the row that no row of the side outranks and that outranks each row of the side before it.
+-- `first_ranked` finds the row that no row of the side outranks and that outranks each row of the side before it.
 use Rattle.std.proofs.Common.{◌≡◌, ℕ, zero, suc, ◌<◌, Bool, true, false, cond, not, ◌&&◌, [], ◌∷◌, Some, None, Option, sym, refl, ap, ◌∙◌, subst, arith}
 use Rattle.std.specs.List.{slice_get}
 use Rattle.market.specs.declared.side.Side.{Side}
@@ -14,7 +14,7 @@ pub record Top (side : Side) (line : Line) (p : Placed) : Type 0 where
   pub right : rests_on side p.row ≡ true
   pub above : (j : ℕ) (r : OrderRow) → slice_get line j ≡ Some r → rests_on side r ≡ true → (outranks side r p.row ≡ false) × (j < p.place → outranks side p.row r ≡ true)
 
--- what `first-ranked` answers
+-- what `first_ranked` answers
 abbrev pub Topped : Side → Line → Option Placed → Type 0
 Topped side line None = (j : ℕ) (r : OrderRow) → slice_get line j ≡ Some r → rests_on side r ≡ true → ⊥
 Topped side line (Some p) = Top side line p

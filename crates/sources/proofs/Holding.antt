@@ -1,7 +1,7 @@
 -- The values of good lines may be written.
 use Rattle.std.proofs.Common.{◌≡◌, ℕ, Bool, true, List, [], Ok, Err, Result, sym, refl, ◌∙◌}
 use Rattle.std.specs.Result.{result_unwrap_or}
-use Rattle.std.specs.List.{AllByRecursion as All}
+use Rattle.std.specs.List.{AllByRecursion}
 use Rattle.texts.specs.declared.refusal.Fault.{Fault}
 use Rattle.texts.specs.Writing.{one_line, Written}
 use Rattle.texts.specs.declared.refusal.TextRefusal.{TextRefusal}
@@ -11,9 +11,9 @@ use Rattle.texts.proofs.Reading.{lines_rows}
 use Rattle.sources.specs.Values.{values}
 
 module _ {X : Type 0} {f : List ℕ → Result X Fault} {written : X → List ℕ} {writable : X → Bool} (law : Written one_line f written writable) where
-  fit : (at : Place) (r : Result (List X) TextRefusal) → all_good (rows_at f at) ≡ r → All (λ x. writable x ≡ true) (result_unwrap_or r [])
+  fit : (at : Place) (r : Result (List X) TextRefusal) → all_good (rows_at f at) ≡ r → AllByRecursion (λ x. writable x ≡ true) (result_unwrap_or r [])
   fit at (Ok xs) is = (rows_say law at.number at.left xs (sym (lines_rows f at.number at.left) ∙ is)).1
   fit at (Err e) is = tt
 
-  pub values_fit : (at : Place) → All (λ x. writable x ≡ true) (values f at)
+  pub values_fit : (at : Place) → AllByRecursion (λ x. writable x ≡ true) (values f at)
   values_fit at = fit at (all_good (rows_at f at)) refl

@@ -1,6 +1,6 @@
 -- The quotes of a source stay formed.
 use Rattle.std.proofs.Common.{◌≡◌, ℕ, true, ◌&&◌, List, [], ◌∷◌, drop, Some, unwrap_or, refl, arith}
-use Rattle.std.specs.List.{AllByRecursion as All}
+use Rattle.std.specs.List.{AllByRecursion}
 use Rattle.std.proofs.lemmas.Bool.{and_from, and_parts}
 use Rattle.market.specs.declared.quote.Quote.{Quote}
 use Rattle.market.specs.Quotes.{formed, all_formed}
@@ -8,7 +8,7 @@ use Rattle.texts.specs.Texts.{first_of}
 use Rattle.sources.specs.Tapes.{the_quote}
 use Rattle.sources.specs.Sources.{or_stand_in}
 
-pub formed_from : (qs : List Quote) → All (λ q. formed q ≡ true) qs → all_formed qs ≡ true
+pub formed_from : (qs : List Quote) → AllByRecursion (λ q. formed q ≡ true) qs → all_formed qs ≡ true
 formed_from [] h = refl
 formed_from (q ∷ qs) h = and_from (formed q) (all_formed qs) h.0 (formed_from qs h.1)
 

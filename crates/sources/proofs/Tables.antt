@@ -1,6 +1,6 @@
 -- The table of the venues is what each showed last.
 use Rattle.std.proofs.Common.{◌≡◌, ℕ, zero, suc, ◌+◌, ◌-◌, ◌<◌, Bool, true, false, cond, ◌&&◌, eqb, leb, List, [], ◌∷◌, map, set, Some, None, Option, sym, refl, ap, arith}
-use Rattle.std.specs.List.{range_with_len, AllByRecursion as All}
+use Rattle.std.specs.List.{range_with_len, AllByRecursion}
 use Rattle.std.proofs.lemmas.Bool.{and_from, and_parts, eq-eqb, ne_eqb, leb-true}
 use Rattle.market.specs.declared.side.Side.{Side}
 use Rattle.market.specs.declared.side.Side.TheVariants.{Buy, Sell}
@@ -20,7 +20,7 @@ use Rattle.sources.proofs.Holding.{values_fit}
 -- THE LINES
 
 abbrev pub Proper : List VenueQuote → Type 0
-Proper = All (λ l. is_venue_quote l ≡ true)
+Proper = AllByRecursion (λ l. is_venue_quote l ≡ true)
 
 pub lines_proper : (at : Place) → Proper (values venue_line at)
 lines_proper = values_fit venue_written

@@ -8,7 +8,7 @@ use texts::lines::Line;
 use texts::reader::Lines;
 
 // The value of the next line, if there is one.
-pub fn next_value<L: Line + Drop>(lines: &mut Lines<'_>) -> Option<L>
+pub(crate) fn next_value<L: Line + Drop>(lines: &mut Lines<'_>) -> Option<L>
     requires { readable L.Line.meaning (place lines.old) ≡ true }
     ensures value { result ≡ first_of (values L.Line.meaning (place lines.old)) }
     ensures after { values L.Line.meaning (place lines.new) ≡ drop 1 (values L.Line.meaning (place lines.old)) }

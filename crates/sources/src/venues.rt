@@ -16,7 +16,7 @@ pub struct VenueTable {
 
 impl VenueTable {
     // No venue has shown anything.
-    pub fn new() -> VenueTable
+    pub(crate) fn new() -> VenueTable
         ensures { result.rows ≡ venues_after [] }
     {
         let none = Venue {
@@ -52,7 +52,7 @@ impl VenueTable {
     }
 
     // The quote that the line gives.
-    pub fn quote_after(&mut self, line: VenueQuote) -> Quote
+    pub(crate) fn quote_after(&mut self, line: VenueQuote) -> Quote
         requires { is_venue line.venue ≡ true }
         ensures table { self.new.rows ≡ changed line self.old.rows }
         ensures quote { result ≡ best_quote self.new.rows line.quote.reference }

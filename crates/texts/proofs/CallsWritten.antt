@@ -1,7 +1,7 @@
 -- A line of a script reads what is written, and nothing else.
 use Rattle.std.specs.Prelude.{◌≡◌, ℕ, ◌<◌, Bool, true, ◌&&◌, List, [], ◌∷◌, ◌++◌, length, drop, codes, decimal, refl}
 use Rattle.std.proofs.Common.{sym, ap, subst, ◌∙◌, arith, length-append}
-use Rattle.std.specs.List.{AllByRecursion as All}
+use Rattle.std.specs.List.{AllByRecursion}
 use Rattle.std.proofs.lemmas.Bool.{and_from, and_parts}
 use Rattle.market.specs.declared.row.Entry.{Entry}
 use Rattle.texts.specs.declared.field.CallWord.{CallWord}
@@ -216,7 +216,7 @@ some_rest c ok = (said (word_of c) c (rest_text c) (made c ok)).3
 call_made : (c : ScriptCall) → is_call c ≡ true → CallParts c (call_text c)
 call_made c ok = subst (CallParts c) (text_is c) (comma_made (word_of c) refl (rest_text c) (some_rest c ok) (made c ok))
 
-plainly : (c : ScriptCall) → is_call c ≡ true → All (λ f. plain f ≡ true) (call_parts c)
+plainly : (c : ScriptCall) → is_call c ≡ true → AllByRecursion (λ f. plain f ≡ true) (call_parts c)
 plainly (Enter e) ok =
     let f = enter_fits e ok in
     (refl, (a_number.shaped e.number f.0, (a_firm.shaped e.firm f.1, (side_written.shaped e.side refl, (kind_written.shaped e.kind refl, (a_number.shaped e.limit f.2, (a_number.shaped e.shares f.3, tt)))))))

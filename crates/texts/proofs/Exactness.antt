@@ -2,7 +2,7 @@
 use Rattle.std.proofs.Common.{◌≡◌, ℕ, ◌+◌, Bool, true, false, cond, not, ◌&&◌, eqb, leb, List, [], ◌∷◌, ◌++◌, map, length, take, drop, Ok, Err, Result, sym, refl, ap, ◌∙◌, subst, arith, take-append-drop}
 use lib.ListN.{length-map}
 use lib.Seq.{take-append_seam, drop-append_seam}
-use Rattle.std.specs.List.{concat, AllByRecursion as All}
+use Rattle.std.specs.List.{concat, AllByRecursion}
 use Rattle.std.specs.Str.{bytes_eq}
 use Rattle.std.proofs.lemmas.Slice.Eq.{bytes_eq-Decides}
 use Rattle.std.proofs.lemmas.Bool.{and_parts, and_from, leb-true, le-leb, false≢true}
@@ -51,7 +51,7 @@ numbered_good n (Err f) x is = absurd (let z : ◌≡◌ {A = ℕ} 0 1 = cc in o
 
 module _ {X : Type 0} {f : List ℕ → Result X Fault} {written : X → List ℕ} {writable : X → Bool} (law : Written one_line f written writable) where
   abbrev AllFit : List X → Type 0
-  AllFit = All (λ x. writable x ≡ true)
+  AllFit = AllByRecursion (λ x. writable x ≡ true)
 
   cons_says : (l : List ℕ) (x : X) (ls : List (List ℕ)) (ys xs : List X) → xs ≡ x ∷ ys → l ≡ written x → ls ≡ map written ys → l ∷ ls ≡ map written xs
   cons_says l x ls ys xs is first more = rw (is, first, more)

@@ -1,7 +1,7 @@
 -- Each kind of line reads what is written, and nothing else.
 use Rattle.std.specs.Prelude.{◌≡◌, ℕ, ◌<◌, true, ◌&&◌, List, [], ◌∷◌, length, decimal, refl}
 use Rattle.std.proofs.Common.{arith, length-append}
-use Rattle.std.specs.List.{AllByRecursion as All}
+use Rattle.std.specs.List.{AllByRecursion}
 use Rattle.std.proofs.lemmas.Bool.{and_from, and_parts}
 use Rattle.market.specs.declared.quote.Quote.{Quote}
 use Rattle.market.specs.Prices.{on_grid}
@@ -62,7 +62,7 @@ quote_made q ok =
     (comma_made (record { price = q.offer }) f.1 _ (simp length-append (omega arith))
     (made_last (record { price = q.reference }) f.2 (refl, refl)))
 
-quote_plain : (q : Quote) → formed q ≡ true → All (λ f. plain f ≡ true) (quote_parts q)
+quote_plain : (q : Quote) → formed q ≡ true → AllByRecursion (λ f. plain f ≡ true) (quote_parts q)
 quote_plain q ok =
     let f = formed_parts q ok in
     (bid_or_offer.shaped (record { price = q.bid }) f.0, (bid_or_offer.shaped (record { price = q.offer }) f.1, (on_the_grid.shaped (record { price = q.reference }) f.2, tt)))

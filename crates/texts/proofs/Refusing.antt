@@ -1,6 +1,6 @@
 -- Where a text is refused.
 use Rattle.std.proofs.Common.{◌≡◌, ℕ, suc, ◌+◌, ◌<◌, ◌≤◌, Bool, true, false, cond, ◌&&◌, eqb, leb, List, [], ◌∷◌, length, take, drop, Some, Ok, Err, Result, refl, ap, subst, inl, inr, arith}
-use Rattle.std.specs.List.{AllByRecursion as All, slice_get}
+use Rattle.std.specs.List.{AllByRecursion, slice_get}
 use Rattle.std.specs.Str.{bytes_eq}
 use Rattle.texts.specs.declared.refusal.Fault.{Fault}
 use Rattle.texts.specs.Fields.{AtAByte}
@@ -11,7 +11,7 @@ use Rattle.texts.specs.Texts.{numbered, both, lines, text, checked, Placed}
 -- NO PIECE IS EMPTY
 
 abbrev NoneEmpty : List (List ℕ) → Type 0
-NoneEmpty = All (λ p. 0 < length p)
+NoneEmpty = AllByRecursion (λ p. 0 < length p)
 
 onto_some : (b : ℕ) (ps : List (List ℕ)) → NoneEmpty ps → NoneEmpty (onto b ps)
 onto_some b [] all = (omega arith, tt)

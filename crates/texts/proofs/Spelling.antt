@@ -3,7 +3,7 @@ use Rattle.std.proofs.Common.{◌≡◌, ℕ, ◌+◌, ◌-◌, ◌<◌, Bool, t
 use lib.Seq.{take-append_seam, get_or-append_seam}
 use Rattle.std.proofs.lemmas.List.{get_or-append-add}
 use Rattle.std.proofs.lemmas.Bool.{eqb-true, and_parts, false≢true}
-use Rattle.std.specs.List.{AllByRecursion as All}
+use Rattle.std.specs.List.{AllByRecursion}
 use Rattle.std.specs.Result.{result_map_both}
 use Rattle.market.specs.declared.refusal.Refusal.{Refusal}
 use Rattle.texts.specs.declared.refusal.Fault.{Fault}
@@ -175,7 +175,7 @@ front_line [] t h is = is
 front_line (b ∷ bs) t h is = let p = plain_first b bs h in more_line b (bs ++ t) p.2 (front_line bs t p.1 is)
 
 -- fields with no comma and no LF make one line
-pub fields_line : (fs : List (List ℕ)) → All (λ f. plain f ≡ true) fs → one_line (fields_text fs) ≡ true
+pub fields_line : (fs : List (List ℕ)) → AllByRecursion (λ f. plain f ≡ true) fs → one_line (fields_text fs) ≡ true
 fields_line [] all = refl
 fields_line (f ∷ []) all = front_line f (10 ∷ []) all.0 refl
 fields_line (f ∷ g ∷ fs) all = front_line f (44 ∷ fields_text (g ∷ fs)) all.0 (more_line 44 (fields_text (g ∷ fs)) refl (fields_line (g ∷ fs) all.1))

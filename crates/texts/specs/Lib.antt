@@ -10,3 +10,4 @@ pub mod Writing
 pub mod Montages
 pub mod Places
 pub mod Views
+pub mod Kinds

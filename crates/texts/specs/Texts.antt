@@ -1,6 +1,6 @@
 -- What a text of lines says, or where it is refused, for any meaning of a line.
 use Rattle.std.specs.Prelude.{◌≡◌, ℕ, ◌+◌, ◌≤◌, Bool, true, cond, ◌&&◌, ◌⊎◌, List, [], ◌∷◌, ◌++◌, map, length, take, drop, Some, None, Ok, Err, Option, Result, nat_le}
-use Rattle.std.specs.List.{concat, AllByRecursion as All, slice_get}
+use Rattle.std.specs.List.{concat, AllByRecursion, slice_get}
 use Rattle.std.specs.Str.{bytes_eq}
 use Rattle.market.specs.declared.refusal.Refusal.{Refusal}
 use Rattle.market.specs.declared.refusal.Refusal.TheVariants.{FirstLine, LineCount}
@@ -73,7 +73,7 @@ text_of header written xs = header ++ concat (map written xs)
 pub record Writable {X : Type 0} (writable : X → Bool) (least most : ℕ) (xs : List X) : Type 0 where
   pub enough : least ≤ length xs
   pub few : length xs ≤ most
-  pub each : All (λ x. writable x ≡ true) xs
+  pub each : AllByRecursion (λ x. writable x ≡ true) xs
 
 -- the law of a text: it says xs just if it can, and is their text
 pub record Exact {X : Type 0} (header : List ℕ) (f : List ℕ → Result X Fault) (written : X → List ℕ) (writable : X → Bool) (least most : ℕ) (bs : List ℕ) : Type 0 where

@@ -2,6 +2,7 @@
 ghost use Rattle.std.specs.Prelude.{◌≡◌, ℕ, List, Result};
 ghost use Rattle.std.specs.Str.{bytes_eq};
 ghost use Rattle.market.specs.declared.refusal.Refusal.{Refusal};
+ghost use Rattle.texts.specs.Kinds.{KindsWritten};
 ghost use Rattle.texts.specs.FieldKinds.{number_field, firm_field, side_field, kind_field, call_word_field, unused_field, grid_price_field, price_or_none_field, venue_number_field};
 
 use crate::number::read_number;
@@ -180,4 +181,11 @@ impl Field for Unused {
             Err(Refusal::BadField)
         }
     }
+}
+
+// The kinds keep their law; this is here so that the check asks for its proof.
+pub fn kinds_hold() -> bool
+    ensures { KindsWritten }
+{
+    true
 }

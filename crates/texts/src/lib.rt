@@ -1,4 +1,4 @@
-// The texts that a session reads: tapes of quotes and scripts of calls, in lines of fields parted by commas.
+// The texts: tapes and montages of quotes, and scripts of calls, in lines of fields parted by commas.
 #![tactic(auto)]
 
 pub mod field;
