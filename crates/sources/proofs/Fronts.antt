@@ -66,6 +66,10 @@ place_within t =
     omega (arith, length-drop t.place t.text.now)
 
 module _ {n : ℕ} {bs front after : List ℕ} (f : Front n bs front after) where
+  -- the quote that is read is the first
+  pub shows : (q : Quote) → Ok q ≡ quote_line front → quotes_from n bs ≡ q ∷ drop 1 (quotes_from n bs)
+  shows q is = let same : f.quote ≡ q = (let e = f.read in cc) in rw (f.quotes, same)
+
   -- at the last line the tape stays
   pub stays : length after ≡ 0 → advanced (quotes_from n bs) ≡ (Err NoFurtherQuote, quotes_from n bs)
   stays none =

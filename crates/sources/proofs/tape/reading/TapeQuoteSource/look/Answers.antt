@@ -1,5 +1,5 @@
 use Rattle.std.proofs.Common.{arith}
-use Rattle.sources.proofs.Fronts.{front_at}
+use Rattle.sources.proofs.Fronts.{front_at, shows}
 use Rattle.sources.proofs.tape.reading.TapeQuoteSource.look.Goals as goal
 
 pub unreachable-requires : goal.unreachable-requires
@@ -11,5 +11,4 @@ unreachable-requires c =
 pub returns : goal.returns
 returns c =
     let f = front_at c.args.self.now _ c.first_piece.result.0.now c.first_piece.result.1.now c.rest.ensures c.first_piece.ensures.cut in
-    let told = c.in-Ok.ensures in
-    record { first = rw f.quotes (cc); formed = c.args.self.now.formed }
+    record { first = shows f c.in-Ok.quote c.in-Ok.ensures; formed = c.args.self.now.formed }
