@@ -2,9 +2,11 @@
 use Rattle.std.proofs.Common.{◌≡◌, ℕ, ◌+◌, ◌<◌, ◌≤◌, Bool, true, false, cond, List, [], ◌∷◌, ◌++◌, length, Ok, Err, Result, arith, length-append}
 use Rattle.std.specs.Result.{result_map_both}
 use Rattle.market.specs.declared.refusal.Refusal.{Refusal}
+use Rattle.market.specs.declared.refusal.Refusal.TheVariants.{BadField}
 use Rattle.texts.specs.declared.refusal.Fault.{Fault}
 use Rattle.texts.specs.Pieces.{body}
-use Rattle.texts.specs.Fields.{Reader, placed, bad_field, and_then, field, done, has_end, start, line, AtAByte}
+use Rattle.texts.specs.Fields.{Reader, fault, placed, and_then, field, done, start, line, AtAByte}
+use Rattle.texts.proofs.Ends.{has_end}
 use Rattle.texts.proofs.Spelling.{cut_first, place}
 
 -- whatever stands from the column on to the line's end, a fault of the reader is at a byte of the line
@@ -43,7 +45,7 @@ mapped_at g size (Err f) h = h
 pub mapped_inside : {X Y : Type 0} (g : X → Y) (read : Reader X) → Inside read → Inside (λ at. result_map_both g (λ e. e) (read at))
 mapped_inside g read each = record { within = λ last col s low some sum. mapped_at g last (read (place last col s)) (each.within last col s low some sum) }
 
-ended_at : {X : Type 0} (t : Bool) (size : ℕ) (r : Result X Fault) → 1 ≤ size → AtAByte size r → AtAByte size (and_then (cond {A = Result (Unit {0}) Fault} t (Ok (tt {0})) (Err (bad_field size))) (λ _. r))
+ended_at : {X : Type 0} (t : Bool) (size : ℕ) (r : Result X Fault) → 1 ≤ size → AtAByte size r → AtAByte size (and_then (cond {A = Result (Unit {0}) Fault} t (Ok (tt {0})) (fault BadField size)) (λ _. r))
 ended_at true size r some h = h
 ended_at false size r some h = (some, omega arith)
 

@@ -2,6 +2,7 @@ pub mod Cuts
 pub mod Steps
 pub mod Decimals
 pub mod FieldsWritten
+pub mod Ends
 pub mod Columns
 pub mod Spelling
 pub mod LinesWritten

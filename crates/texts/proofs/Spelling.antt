@@ -8,7 +8,8 @@ use Rattle.std.specs.Result.{result_map_both}
 use Rattle.market.specs.declared.refusal.Refusal.{Refusal}
 use Rattle.texts.specs.declared.refusal.Fault.{Fault}
 use Rattle.texts.specs.Pieces.{onto, pieces, body}
-use Rattle.texts.specs.Fields.{Cursor, Reader, placed, and_then, field, done, has_end, start, line}
+use Rattle.texts.specs.Fields.{Cursor, Reader, placed, and_then, field, done, start, line}
+use Rattle.texts.proofs.Ends.{has_end}
 use Rattle.texts.specs.Writing.{plain, fields_text, one_line, Written}
 
 -- CUTTING

@@ -1,5 +1,5 @@
 -- A line's fields, read one after the other.
-use Rattle.std.specs.Prelude.{ℕ, ◌+◌, ◌-◌, ◌≤◌, Bool, cond, List, [], ◌∷◌, length, drop, Ok, Err, Result, ◌==◌, slice_index, slice_index_or}
+use Rattle.std.specs.Prelude.{ℕ, ◌+◌, ◌-◌, ◌≤◌, cond, List, [], ◌∷◌, length, drop, Ok, Err, Result, ◌==◌, slice_index, slice_index_or}
 use Rattle.market.specs.declared.refusal.Refusal.{Refusal}
 use Rattle.market.specs.declared.refusal.Refusal.TheVariants.{BadField}
 use Rattle.texts.specs.declared.refusal.Fault.{Fault}
@@ -62,10 +62,6 @@ field f more at = and_then (next_field f at) (λ x. more x (stepped at))
 abbrev pub done : {X : Type 0} → X → Reader X
 done x at = and_then (end_at at) (λ _. Ok x)
 
--- a line's last byte is its LF
-abbrev pub has_end : List ℕ → Bool
-has_end l = slice_index l (length l - 1) == 10
-
 -- a line that lacks its LF is refused at its last byte
 abbrev pub ended : List ℕ → Result (Unit {0}) Fault
 ended l = cond (slice_index l (length l - 1) == 10) (Ok tt) (fault BadField (length l))
@@ -73,10 +69,6 @@ ended l = cond (slice_index l (length l - 1) == 10) (Ok tt) (fault BadField (len
 -- a whole line, with its LF
 abbrev pub line : {X : Type 0} → Reader X → List ℕ → Result X Fault
 line read l = and_then (ended l) (λ _. read (start l))
-
--- a field that is missing, surplus or unreadable
-abbrev pub bad_field : ℕ → Fault
-bad_field col = record { refusal = BadField; column = col }
 
 -- the law of faults: each is at a byte of its line
 abbrev pub AtAByte : {X : Type 0} → ℕ → Result X Fault → Type 0
