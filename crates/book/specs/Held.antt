@@ -1,35 +1,32 @@
--- What a line holds, and what every line of a book satisfies.
-use Rattle.std.specs.Prelude.{◌≡◌, ℕ, ◌+◌, ◌*◌, ◌≤◌, min, true, cond, List, length, take, Some, None, Ok, Err, Option, Result, nat_le}
+-- What a book holds, and what its calls answer.
+use Rattle.std.specs.Prelude.{ℕ, ◌+◌, ◌*◌, ◌≤◌, cond, List, Some, None, Ok, Err, Option, Result, nat_le}
 use Rattle.market.specs.declared.row.OrderRow.{OrderRow}
-use Rattle.rules.specs.Lines.{all_formed}
+use Rattle.market.specs.declared.report.Report.{Report}
 use Rattle.market.specs.declared.refusal.Refusal.{Refusal}
 use Rattle.market.specs.declared.refusal.Refusal.TheVariants.{ReportTableSize}
-use Rattle.book.specs.declared.line.Line.{Line}
-
--- how many rows of a table a book uses
-abbrev pub capacity : ℕ → ℕ
-capacity rows = min rows 1024
+use Rattle.rules.specs.Lines.{Event}
+use Rattle.matching.specs.Held as line
+use Rattle.matching.specs.Tables.{Made}
+use Rattle.book.specs.Capacity.{capacity}
+use Rattle.book.specs.declared.book.Book.{Book}
 
 -- the orders in line
-abbrev pub held : Line → List OrderRow
-held l = take l.len l.rows.now
+abbrev pub held : Book → List OrderRow
+held b = line.held b.line
 
--- the size of the table
-abbrev pub size : Line → ℕ
-size l = length l.rows.now
-
--- the line fits the rows in use
-abbrev pub Fits : Line → Type 0
-Fits l = l.len ≤ capacity (size l)
-
--- every order in line is formed
-abbrev pub Formed : Line → Type 0
-Formed l = all_formed (held l) ≡ true
+-- the size of the order table
+abbrev pub size : Book → ℕ
+size b = line.size b.line
 
 -- a count of reports lies within the report table
 abbrev pub Counted : Result ℕ Refusal → ℕ → Type 0
 Counted (Ok count) table = count ≤ table
 Counted (Err refusal) table = Unit {0}
+
+-- an accepted call made the events on the line, and reported them from the first row of the table on
+abbrev pub MakesIfOk : List Event → Book → List Report → Book → List Report → Result ℕ Refusal → Type 0
+MakesIfOk events before table after table' (Ok count) = Made events (held before) table 0 (held after) table' count
+MakesIfOk events before table after table' (Err refusal) = Unit {0}
 
 -- a report table needs two rows for each order row in use, and one more
 abbrev pub report_check : ℕ → ℕ → Result (Unit {0}) Refusal

@@ -1,2 +1,4 @@
+pub mod Calls
+pub mod Capacity
 pub mod Held
 pub mod Opening

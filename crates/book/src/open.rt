@@ -10,7 +10,7 @@ use matching::reprice::MOST_ROWS;
 pub fn check_order_table(rows: &[OrderRow]) -> Result<(), Refusal>
     ensures { result ≡ table_check (length rows.now) }
 {
-    if 1 <= rows.len() && rows.len() <= MOST_ROWS {
+    if (1..=MOST_ROWS).contains(&rows.len()) {
         Ok(())
     } else {
         Err(Refusal::OrderTableSize)

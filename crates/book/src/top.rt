@@ -6,7 +6,8 @@ ghost use Rattle.book.specs.Held.{shares_at};
 use market::row::OrderRow;
 use market::side::Side;
 
-// The price that the row displays, if it rests on the side and displays one.
+// The price that the row displays, if it rests on the side and displays one. A `filter` would be no plainer: it would
+// not look at the price.
 fn displayed_on(row: &OrderRow, side: Side) -> Option<u32> {
     if row.rests_on(side) {
         row.display
@@ -15,7 +16,8 @@ fn displayed_on(row: &OrderRow, side: Side) -> Option<u32> {
     }
 }
 
-// The best price so far and the shares at it, once a row that displays these shares at this price is counted.
+// The best price so far and the shares at it, once a row that displays these shares at this price is counted. A
+// `match`: there are four outcomes.
 fn with_displayed(
     side: Side,
     best: Option<(u32, u32)>,
@@ -37,7 +39,7 @@ fn with_displayed(
     }
 }
 
-// Sums the shares at the side's best display price over all rows of the line.
+// Sums the shares at the side's best display price over all rows of the line, in a loop by a rule of the project.
 pub(crate) fn best_displayed(line: &[OrderRow], side: Side) -> Option<(u32, u32)>
     requires { (all_formed line.now ≡ true) × (length line.now ≤ 1024) }
     ensures { shares_at result ≤ 1000000 * length line.now }

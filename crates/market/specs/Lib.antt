@@ -4,3 +4,4 @@ pub mod Quotes
 pub mod Venues
 pub mod Rows
 pub mod Refusals
+pub mod Reports

@@ -1,5 +1,6 @@
 -- Quotes of the away markets.
-use Rattle.std.specs.Prelude.{ℕ, Bool, true, ◌&&◌, List, [], ◌∷◌, Some, None, Option}
+use Rattle.std.specs.Prelude.{ℕ, Bool, true, ◌&&◌, List, Some, None, Option}
+use Rattle.std.specs.List.{list_all}
 use Rattle.market.specs.declared.side.Side.{Side}
 use Rattle.market.specs.declared.side.Side.TheVariants.{Buy, Sell}
 use Rattle.market.specs.declared.quote.Quote.{Quote}
@@ -15,8 +16,7 @@ abbrev pub formed : Quote → Bool
 formed q = quotable q.bid && quotable q.offer && on_grid q.reference
 
 abbrev pub all_formed : List Quote → Bool
-all_formed [] = true
-all_formed (q ∷ qs) = formed q && all_formed qs
+all_formed qs = list_all formed qs
 
 -- the away price that an order of the side meets: the offer for a buy, the bid for a sell
 abbrev pub away : Quote → Side → Option ℕ

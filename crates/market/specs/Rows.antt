@@ -4,6 +4,8 @@ use Rattle.market.specs.declared.side.Side.{Side}
 use Rattle.market.specs.declared.row.State.{State}
 use Rattle.market.specs.declared.row.State.TheVariants.{Resting, Waiting, Away}
 use Rattle.market.specs.declared.row.OrderRow.{OrderRow}
+use Rattle.market.specs.declared.row.Category.{Category}
+use Rattle.market.specs.declared.row.Category.TheVariants.{Display, NonDisplay}
 use Rattle.market.specs.declared.row.Entry.{Entry}
 use Rattle.market.specs.Sides.{same_side, inside, better}
 
@@ -19,11 +21,11 @@ entry_of r = record { number = r.number; firm = r.firm; side = r.side; kind = r.
 
 -- the row with other open shares
 abbrev pub with_shares : ℕ → OrderRow → OrderRow
-with_shares n r = record { number = r.number; firm = r.firm; side = r.side; kind = r.kind; limit = r.limit; shares = n; state = r.state; working = r.working; display = r.display }
+with_shares n r = record r { shares = n }
 
 -- the order in hand with other open shares
 abbrev pub entry_with : ℕ → Entry → Entry
-entry_with n e = record { number = e.number; firm = e.firm; side = e.side; kind = e.kind; limit = e.limit; shares = n }
+entry_with n e = record e { shares = n }
 
 -- WHICH ROWS MAY EXIST
 
@@ -64,8 +66,15 @@ displays None working = false
 displays (Some display) working = display == working
 
 -- category 2 displays the price that it works at; any other resting order is in category 3
+abbrev pub category_of : OrderRow → Category
+category_of r = cond (displays r.display r.working) Display NonDisplay
+
+abbrev pub priority : Category → ℕ
+priority Display = 2
+priority NonDisplay = 3
+
 abbrev pub category : OrderRow → ℕ
-category r = cond (displays r.display r.working) 2 3
+category r = priority (category_of r)
 
 -- of two orders that rest on the side, the first ranks before the second wherever they stand in line:
 -- by better working price, then category 2 before 3

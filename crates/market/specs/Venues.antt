@@ -3,12 +3,17 @@ use Rattle.std.specs.Prelude.{◌≡◌, ℕ, Bool, false, cond, ◌&&◌, List,
 use Rattle.std.specs.List.{slice_get}
 use Rattle.market.specs.declared.side.Side.{Side}
 use Rattle.market.specs.declared.side.Side.TheVariants.{Buy, Sell}
+use Rattle.market.specs.declared.quote.Quote.{Quote}
 use Rattle.market.specs.declared.venue.Venue.{Venue}
 use Rattle.market.specs.Sides.{better}
 
 -- sixteen venues, numbered from 1
 abbrev pub is_venue : ℕ → Bool
 is_venue n = nat_le 1 n && nat_le n 16
+
+-- a venue that shows the bid and the offer of a quote
+abbrev pub showing : Quote → Venue
+showing q = record { bid = q.bid; offer = q.offer }
 
 -- the price that a venue quotes on a side: its bid for buys, its offer for sells
 abbrev pub price_on : Side → Venue → Option ℕ

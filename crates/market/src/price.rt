@@ -16,7 +16,7 @@ const CENT: u32 = 100;
 pub fn is_on_grid(price: u32) -> bool
     ensures { result ≡ on_grid price }
 {
-    LOWEST <= price && price <= HIGHEST && (price < DOLLAR || price % CENT == 0)
+    (LOWEST..=HIGHEST).contains(&price) && (price < DOLLAR || price % CENT == 0)
 }
 
 // The price one step above a price.

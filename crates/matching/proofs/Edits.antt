@@ -1,8 +1,9 @@
 -- What a write, a rotation and a report come to on the line and on the report table.
-use Rattle.std.proofs.Common.{◌≡◌, ℕ, zero, suc, ◌+◌, ◌<◌, ◌≤◌, List, [], ◌∷◌, ◌++◌, length, get_or, take, drop, set, sym, refl, ap, ◌∙◌, append_assoc, add-zero, add_assoc, add-one, arith, length-append, length-take}
+use Rattle.std.proofs.Common.{◌≡◌, ℕ, zero, suc, ◌+◌, ◌-◌, ◌<◌, ◌≤◌, List, [], ◌∷◌, ◌++◌, length, take, drop, set, sym, refl, ap, ◌∙◌, append_assoc, add-zero, add_assoc, add-one, arith, length-append, length-take, length-drop, drop_of_length-le}
 use Rattle.std.specs.List.{between}
-use Rattle.std.proofs.lemmas.List.{drop-drop, take-take, take_at, set_at, drop_more, length_push, append-nil, take-append-drop, set_split, drop_at}
-use Rattle.std.proofs.lemmas.Slice.{between_is}
+use Rattle.std.proofs.lemmas.List.{drop-drop, take-take, take_at, take_more_set, append-nil, take-append-drop, set_split, drop_at}
+use Rattle.std.proofs.lemmas.Slice.{between_to_end}
+use borrow.Rule.Slice.PartMut.{put_mid}
 use Rattle.market.specs.declared.row.OrderRow.{OrderRow}
 use Rattle.rules.specs.Lines.{Line, replace_at, to_end}
 use Rattle.matching.specs.Tables.{written}
@@ -21,10 +22,21 @@ rotated_to_end (suc i) [] = refl
 rotated_to_end zero (x ∷ xs) = refl
 rotated_to_end (suc i) (x ∷ xs) = ap (λ z. x ∷ z) (rotated_to_end i xs)
 
-pub rotated : (xs : Line) (n i : ℕ) → i < n → take i xs ++ (drop 1 (between i n xs) ++ take 1 (between i n xs)) ≡ to_end i (take n xs)
-rotated xs n i h =
-    let le : i ≤ n = omega arith in
-    simp (between_is, drop-drop, add-one) (ap (λ z. z ++ (drop (suc i) (take n xs) ++ take 1 (drop i (take n xs)))) (sym (take-take i n xs le)) ∙ rotated_to_end i (take n xs))
+-- a rotation by one of the rows from i on
+pub rotated : (xs part : Line) (i : ℕ) → i < length xs → part ≡ drop 1 (between i (length xs) xs) ++ take 1 (between i (length xs) xs) → put_mid i (length xs - i) xs part ≡ to_end i xs
+rotated xs part i h is =
+    let most : length xs ≤ length xs = omega arith in
+    let e = rw (between_to_end xs i (length xs) most) at is in
+    let none : drop (length xs - i) (drop i xs) ≡ [] = drop_of_length-le (drop i xs) (omega (arith, length-drop i xs)) in
+    rw (none, e) (simp (append-nil, drop-drop, add-one) (rotated_to_end i xs))
+
+-- the rows after the part at the front of them was written to
+module _ (rows part : Line) (len : ℕ) (fits : len ≤ length rows) (size : length part ≡ length (take len rows)) where
+  pub part_is : take len (part ++ drop len rows) ≡ part
+  part_is = take_at part (drop len rows) len (omega (arith, length-take len rows))
+
+  pub part_size : length (part ++ drop len rows) ≡ length rows
+  part_size = simp (length-append, length-drop) (omega (arith, length-take len rows))
 
 -- all but the last row of a line whose row at i moved to the end
 pub to_end_leaves : (i n : ℕ) (xs : Line) → i < length xs → n + 1 ≡ length xs → take n (to_end i xs) ≡ replace_at i [] xs
@@ -33,14 +45,18 @@ to_end_leaves zero n (x ∷ xs) h e = take_at xs (x ∷ []) n (omega arith)
 to_end_leaves (suc i) zero (x ∷ xs) h e = absurd (omega arith)
 to_end_leaves (suc i) (suc n) (x ∷ xs) h e = ap (λ z. x ∷ z) (to_end_leaves i n xs (omega arith) (omega arith))
 
--- THE REPORT TABLE
+-- the line is one row longer where the row behind it was written
+pub appended : (rows rows' : Line) (len : ℕ) (r : OrderRow) → len < length rows → rows' ≡ replace_at len (r ∷ []) rows → take (len + 1) rows' ≡ take len rows ++ r ∷ []
+appended rows rows' len r h e = ap (take (len + 1)) (e ∙ sym (set_replaces len r rows)) ∙ take_more_set rows len r h
 
--- one row more
-pub written_more : {X : Type 0} (table : List X) (next : ℕ) (rs : List X) (r : X) → next + length rs < length table → set (written table next rs) (next + length rs) r ≡ written table next (rs ++ r ∷ [])
-written_more table next rs r h =
-    let behind = drop_more table (next + length rs) r h in
-    let here = set_at (take next table ++ rs) (get_or table (next + length rs) r) (drop (next + length rs + 1) table) r (next + length rs) (simp (length-append, length-take) (omega arith)) in
-    rw behind (here ∙ simp (length_push, append_assoc, add_assoc))
+-- and one row shorter where a row moved to its end
+pub removed : (rows part : Line) (len i : ℕ) → i < len → len ≤ length rows → length part ≡ length (take len rows) → part ≡ to_end i (take len rows) → take (len - 1) (part ++ drop len rows) ≡ replace_at i [] (take len rows)
+removed rows part len i h fits size e =
+    let less : len - 1 ≤ len = omega arith in
+    let all = length-take len rows in
+    sym (take-take (len - 1) len _ less) ∙ ap (take (len - 1)) (part_is rows part len fits size ∙ e) ∙ to_end_leaves i (len - 1) (take len rows) (omega arith) (omega arith)
+
+-- THE REPORT TABLE
 
 pub written_none : {X : Type 0} (table : List X) (next : ℕ) → written table next [] ≡ table
 written_none table next = simp (add-zero, append-nil, take-append-drop)

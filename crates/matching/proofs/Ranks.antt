@@ -9,7 +9,6 @@ use Rattle.market.specs.Rows.{rests_on, outranks}
 use Rattle.ranking.specs.Ranking.{First}
 use Rattle.rules.specs.declared.trading.Placed.{Placed}
 use Rattle.rules.specs.Lines.{Line, first_ranked}
-use Rattle.rules.proofs.Tests.{clash}
 use Rattle.rules.proofs.Rank.{Top, Topped, topped}
 
 pub first_none : (side : Side) (line : Line) → First (rests_on side) (outranks side) line None → None ≡ first_ranked side line
@@ -17,13 +16,13 @@ first_none side line none = go (first_ranked side line) (topped side line)
   where
     go : (o : Option Placed) → Topped side line o → None ≡ o
     go None t = refl
-    go (Some p) t = clash t.right (none p.place p.row t.there)
+    go (Some p) t = cc (t.right, none p.place p.row t.there)
 
 module _ (side : Side) (line : Line) (i : ℕ) (f : First (rests_on side) (outranks side) line (Some i)) where
   same_place : (p : Placed) → Top side line p → i ≡ p.place
   same_place p t =
       ⊎_elim (λ e. e) (⊎_elim
-      (λ l. clash ((t.above i f.0.row f.0.here f.0.counted).1 l) (f.0.unbeaten p.place p.row t.there t.right))
+      (λ l. cc ((t.above i f.0.row f.0.here f.0.counted).1 l, f.0.unbeaten p.place p.row t.there t.right))
       (λ l. absurd (f.1 p.place l (record { within = within_of t.there; row = p.row; here = t.there; counted = t.right; unbeaten = λ k y e c. (t.above k y e c).0 }))))
       (cases_order i p.place)
     where

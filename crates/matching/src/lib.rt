@@ -3,7 +3,9 @@
 
 pub mod arrival;
 pub mod find;
+pub mod line;
 pub mod prices;
+pub mod reports;
 pub mod reprice;
 pub mod table;
 pub mod trade;

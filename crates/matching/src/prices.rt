@@ -1,11 +1,11 @@
 // The prices that a resting order takes at a new quote.
 ghost use Rattle.std.specs.Prelude.{◌≡◌, true, Some};
-ghost use Rattle.market.specs.Quotes.{quotable, formed};
+ghost use Rattle.market.specs.Quotes.{quotable};
 ghost use Rattle.rules.specs.Repricing.{at_prices, at_away, slid, off_limit, is_at_limit as isAtLimit, repriced as repricedOf, follows as followsOf, rises as risesOf};
 
 use crate::arrival::{away_reached, hold_to};
 use market::price::step_back;
-use market::quote::Quote;
+use market::quote::FormedQuote;
 use market::row::{Kind, OrderRow};
 
 fn with_prices(row: OrderRow, working: u32, display: Option<u32>) -> OrderRow
@@ -18,26 +18,16 @@ fn with_prices(row: OrderRow, working: u32, display: Option<u32>) -> OrderRow
     }
 }
 
-// Works at the away price, and displays one step back from it.
-fn beside(row: OrderRow, away: u32) -> OrderRow
-    requires { quotable (Some away) ≡ true }
-    ensures { result ≡ at_away away row }
-{
-    with_prices(row, away, Some(step_back(row.side, away)))
-}
-
-// A row whose limit the away price reaches.
+// A row whose limit the away price reaches: at its display price where that is reached too, else at the away price.
 fn slide(row: OrderRow, away: u32) -> OrderRow
     requires { quotable (Some away) ≡ true }
     ensures { result ≡ slid row.display away row }
 {
     match row.display {
-        Some(display) => if row.side.may_trade(away, display) {
+        Some(display) if row.side.may_trade(away, display) => {
             with_prices(row, display, Some(display))
-        } else {
-            beside(row, away)
-        },
-        None => beside(row, away),
+        }
+        _ => with_prices(row, away, Some(step_back(row.side, away))),
     }
 }
 
@@ -54,15 +44,11 @@ fn leave_limit(row: OrderRow, reached: Option<u32>) -> OrderRow
 fn is_at_limit(row: &OrderRow) -> bool
     ensures { result ≡ isAtLimit row.now }
 {
-    match row.display {
-        Some(display) => row.working == row.limit && display == row.limit,
-        None => false,
-    }
+    row.working == row.limit && row.display == Some(row.limit)
 }
 
 // The row as it is priced at the quote.
-pub fn repriced(quote: Quote, row: OrderRow) -> OrderRow
-    requires { formed quote ≡ true }
+pub fn repriced(quote: FormedQuote, row: OrderRow) -> OrderRow
     ensures { result ≡ repricedOf quote row }
 {
     let away = quote.away(row.side);
@@ -81,15 +67,11 @@ pub fn repriced(quote: Quote, row: OrderRow) -> OrderRow
 pub fn follows_quotes(row: &OrderRow) -> bool
     ensures { result ≡ followsOf row.now }
 {
-    match row.kind {
-        Kind::Hidden | Kind::NonRoutable => row.state.is_resting(),
-        _ => false,
-    }
+    row.state.is_resting() && matches!(row.kind, Kind::Hidden | Kind::NonRoutable)
 }
 
 // Whether the working price rises at the quote, told for a buy.
-pub fn rises(quote: Quote, row: OrderRow) -> bool
-    requires { formed quote ≡ true }
+pub fn rises(quote: FormedQuote, row: OrderRow) -> bool
     ensures { result ≡ risesOf quote row }
 {
     row.side

@@ -1,62 +1,37 @@
 // The orders that follow the quotes take new prices, in two passes.
-ghost use Rattle.std.specs.Prelude.{◌≡◌, ◌+◌, ◌*◌, ◌<◌, ◌≤◌, true, length, take};
-ghost use Rattle.market.specs.Quotes.{formed};
-ghost use Rattle.rules.specs.Lines.{all_formed};
-ghost use Rattle.rules.specs.Repricing.{takes_part, numbers as numbersOf, follower as followerOf, takes_new_place, same_display, repriced_report, fall, rise, each, reprices};
+ghost use Rattle.std.specs.Prelude.{◌≡◌, ◌+◌, ◌*◌, ◌<◌, ◌≤◌, true, length, IfSome};
+ghost use Rattle.market.specs.Rows.{formed};
 ghost use Rattle.rules.specs.declared.repricing.Pass.TheVariants.{First, Second};
-ghost use Rattle.matching.specs.Tables.{Made};
+ghost use Rattle.rules.specs.declared.trading.Placed.{Placed};
+ghost use Rattle.rules.specs.Repricing.{takes_part, numbers as numbersOf, follows, follower as followerOf, repriced as repricedOf, takes_new_place, same_display, repriced_report, fall, rise, each, reprices};
+ghost use Rattle.matching.specs.Changes.{Makes};
+ghost use Rattle.matching.specs.Held.{held};
+ghost use Rattle.matching.specs.Reported.{HasRoom};
+ghost use Rattle.matching.specs.Turns.{turn};
 
-use crate::arrival::Progress;
-use crate::find::find;
+use crate::line::Line;
 use crate::prices::{follows_quotes, repriced, rises};
-use crate::table::{append, remove, write, write_last, write_report};
-use crate::trade::trade;
+use crate::reports::Reports;
+use arrayvec::ArrayVec;
 use market::order::Order;
-use market::quote::Quote;
+use market::quote::FormedQuote;
 use market::report::Report;
 use market::row::OrderRow;
 use rules::repricing::Pass;
 use rules::trading::Placed;
 
-// The most rows that a line has.
+// The most rows of a line that is repriced.
 pub const MOST_ROWS: usize = 1024;
 
 // Whether the row has its turn in the pass.
-fn is_in_pass(quote: Quote, pass: Pass, row: &OrderRow) -> bool
-    requires { formed quote ≡ true }
+fn is_in_pass(quote: FormedQuote, pass: Pass, row: &OrderRow) -> bool
     ensures { result ≡ takes_part quote pass row.now }
 {
-    match pass {
-        Pass::First => follows_quotes(row) && !rises(quote, *row),
-        Pass::Second => follows_quotes(row) && rises(quote, *row),
-    }
-}
-
-// Writes the numbers of the orders that have their turn in the pass, in line order, and answers how many there are.
-fn gather(line: &[OrderRow], quote: Quote, pass: Pass, numbers: &mut [u32]) -> usize
-    requires { (length line.now ≤ length numbers.old) × (formed quote ≡ true) }
-    ensures numbers { take result numbers.new ≡ numbersOf quote pass line.now }
-    ensures count { result ≡ length (numbersOf quote pass line.now) }
-    ensures few { result ≤ length line.now }
-{
-    let mut count = 0;
-    for row in line {
-        if is_in_pass(quote, pass, row) {
-            numbers[count] = row.number;
-            count += 1;
+    follows_quotes(row)
+        && match pass {
+            Pass::First => !rises(quote, *row),
+            Pass::Second => rises(quote, *row),
         }
-    }
-    count
-}
-
-// The row of the number, if it still stands in line and follows the quotes.
-fn follower(line: &[OrderRow], number: u32) -> Option<Placed>
-    ensures { result ≡ followerOf number line.now }
-{
-    match find(line, number) {
-        Some(found) if follows_quotes(&found.row) => Some(found),
-        _ => None,
-    }
 }
 
 // Whether a repriced row takes a new place: only if its working price changed.
@@ -69,13 +44,10 @@ fn takes_new_place(old: &OrderRow, new: &OrderRow) -> bool
 fn is_same_display(a: Option<u32>, b: Option<u32>) -> bool
     ensures { result ≡ same_display a b }
 {
-    match (a, b) {
-        (None, None) => true,
-        (Some(a), Some(b)) => a == b,
-        _ => false,
-    }
+    a == b
 }
 
+// No `From`: a row is reported as repriced only here.
 fn report_of(row: OrderRow) -> Report
     ensures { result ≡ repriced_report row }
 {
@@ -87,133 +59,129 @@ fn report_of(row: OrderRow) -> Report
     }
 }
 
-// The first pass over one order.
-fn reprice_falling(
-    rows: &mut [OrderRow],
-    len: usize,
-    reports: &mut [Report],
-    next: usize,
-    number: u32,
-    quote: Quote,
-) -> usize
-    requires { (len ≤ length rows.old) × ((next < length reports.old) × ((all_formed (take len rows.old) ≡ true) × (formed quote ≡ true))) }
-    ensures made { Made (fall quote number (take len rows.old)) (take len rows.old) reports.old next (take len rows.new) reports.new result }
-    ensures formed { all_formed (take len rows.new) ≡ true }
-    ensures most { result ≤ next + 1 }
+// The order in a row that follows the quotes, as it is priced at the quote.
+fn repriced_order(quote: FormedQuote, row: OrderRow) -> Order
+    requires row { formed row ≡ true }
+    requires follows { follows row ≡ true }
+    ensures { result ≡ repricedOf quote row }
 {
-    let Some(found) = follower(&rows[0..len], number) else {
-        return next;
-    };
-    let old = found.row;
-    let new = repriced(quote, old);
-    let order = Order::known(new);
-    if takes_new_place(&old, &new) {
-        write_last(rows, len, found.place, order);
-        return write_report(reports, next, report_of(new));
-    }
-    if is_same_display(new.display, old.display) {
-        return next;
-    }
-    write(rows, len, found.place, order);
-    write_report(reports, next, report_of(new))
+    Order::known(repriced(quote, row))
 }
 
-// The second pass over one order: it trades with its new working price as bound, and what is left rests last.
-fn reprice_rising(
-    rows: &mut [OrderRow],
-    len: usize,
-    reports: &mut [Report],
-    next: usize,
-    number: u32,
-    quote: Quote,
-) -> Progress
-    requires { (len ≤ length rows.old) × ((next + len ≤ length reports.old) × ((all_formed (take len rows.old) ≡ true) × (formed quote ≡ true))) }
-    ensures made { Made (rise quote number (take len rows.old)) (take len rows.old) reports.old next (take result.len rows.new) reports.new result.next }
-    ensures formed { all_formed (take result.len rows.new) ≡ true }
-    ensures len { result.len ≤ len }
-    ensures most { result.next + result.len ≤ next + len + 1 }
-{
-    let Some(found) = follower(&rows[0..len], number) else {
-        return Progress { len, next };
-    };
-    let new = repriced(quote, found.row);
-    let next = write_report(reports, next, report_of(new));
-    remove(rows, len, found.place);
-    let traded = trade(rows, len - 1, reports, next, new.entry(), new.working);
-    let left = traded.left.shares;
-    if left == 0 {
-        return Progress {
-            len: traded.len,
-            next: traded.next,
+impl Line<'_> {
+    // The numbers of the orders that have their turn in the pass, in line order.
+    fn numbers(&self, quote: FormedQuote, pass: Pass) -> ArrayVec<u32, MOST_ROWS>
+        requires { self.now.len ≤ 1024 }
+        ensures { result.items ≡ numbersOf quote pass (held self.now) }
+    {
+        let mut numbers = ArrayVec::new();
+        // No `extend`: it answers a `Result`, and there is always room.
+        for row in self.orders() {
+            if is_in_pass(quote, pass, row) {
+                numbers.push(row.number);
+            }
+        }
+        numbers
+    }
+
+    // The row of the number, if it still stands in line and follows the quotes.
+    fn follower(&self, number: u32) -> Option<Placed>
+        ensures row { result ≡ followerOf number (held self.now) }
+        ensures within { IfSome result (λ (p : Placed). p.place < self.now.len) }
+        ensures formed { IfSome result (λ (p : Placed). formed p.row ≡ true) }
+        ensures follows { IfSome result (λ (p : Placed). follows p.row ≡ true) }
+    {
+        self.find(number).filter(|found| follows_quotes(&found.row))
+    }
+
+    // The first pass over one order.
+    fn reprice_falling(&mut self, number: u32, quote: FormedQuote, reports: &mut Reports)
+        requires { HasRoom self.old.len reports.old }
+        ensures made { Makes (fall quote number (held self.old)) self.old reports.old self.new reports.new }
+        ensures len { self.new.len ≡ self.old.len }
+        ensures most { reports.new.next ≤ reports.old.next + 1 }
+    {
+        let Some(found) = self.follower(number) else {
+            return;
         };
+        let old = found.row;
+        let order = repriced_order(quote, old);
+        let new = order.row();
+        if takes_new_place(&old, &new) {
+            self.write_last(found.place, order);
+            reports.write(report_of(new));
+        } else if !is_same_display(new.display, old.display) {
+            self.write(found.place, order);
+            reports.write(report_of(new));
+        }
     }
-    let row = OrderRow {
-        shares: left,
-        ..new
-    };
-    append(rows, traded.len, Order::known(row));
-    Progress {
-        len: traded.len + 1,
-        next: traded.next,
-    }
-}
 
-fn first_pass(
-    rows: &mut [OrderRow],
-    len: usize,
-    reports: &mut [Report],
-    next: usize,
-    numbers: &[u32],
-    quote: Quote,
-) -> usize
-    requires { (len ≤ length rows.old) × ((next + length numbers.now ≤ length reports.old) × ((all_formed (take len rows.old) ≡ true) × (formed quote ≡ true))) }
-    ensures made { Made (each (fall quote) numbers.now (take len rows.old)) (take len rows.old) reports.old next (take len rows.new) reports.new result }
-    ensures formed { all_formed (take len rows.new) ≡ true }
-    ensures most { result ≤ next + length numbers.now }
-{
-    let mut next = next;
-    for number in numbers {
-        next = reprice_falling(rows, len, reports, next, *number, quote);
+    // The second pass over one order: it trades with its new working price as bound, and what is left rests last.
+    fn reprice_rising(&mut self, number: u32, quote: FormedQuote, reports: &mut Reports)
+        requires { HasRoom self.old.len reports.old }
+        ensures made { Makes (rise quote number (held self.old)) self.old reports.old self.new reports.new }
+        ensures len { self.new.len ≤ self.old.len }
+        ensures most { reports.new.next + self.new.len ≤ reports.old.next + self.old.len + 1 }
+    {
+        let Some(found) = self.follower(number) else {
+            return;
+        };
+        let new = repriced_order(quote, found.row).row();
+        reports.write(report_of(new));
+        self.remove(found.place);
+        let left = self.trade(new.into(), new.working, reports).shares;
+        if left == 0 {
+            return;
+        }
+        let row = OrderRow {
+            shares: left,
+            ..new
+        };
+        self.append(Order::known(row));
     }
-    next
-}
 
-fn second_pass(
-    rows: &mut [OrderRow],
-    len: usize,
-    reports: &mut [Report],
-    next: usize,
-    numbers: &[u32],
-    quote: Quote,
-) -> Progress
-    requires { (len ≤ length rows.old) × ((next + len + length numbers.now ≤ length reports.old) × ((all_formed (take len rows.old) ≡ true) × (formed quote ≡ true))) }
-    ensures made { Made (each (rise quote) numbers.now (take len rows.old)) (take len rows.old) reports.old next (take result.len rows.new) reports.new result.next }
-    ensures formed { all_formed (take result.len rows.new) ≡ true }
-    ensures len { result.len ≤ len }
-    ensures within { result.next ≤ length reports.old }
-{
-    let mut len = len;
-    let mut next = next;
-    for number in numbers {
-        let progress = reprice_rising(rows, len, reports, next, *number, quote);
-        len = progress.len;
-        next = progress.next;
+    // The pass over one order. No closure in its place: the two differ in what they promise of the line.
+    fn reprice_one(&mut self, pass: Pass, number: u32, quote: FormedQuote, reports: &mut Reports)
+        requires { HasRoom self.old.len reports.old }
+        ensures made { Makes (turn quote pass number (held self.old)) self.old reports.old self.new reports.new }
+        ensures len { self.new.len ≤ self.old.len }
+        ensures most { reports.new.next + self.new.len ≤ reports.old.next + self.old.len + 1 }
+    {
+        match pass {
+            Pass::First => self.reprice_falling(number, quote, reports),
+            Pass::Second => self.reprice_rising(number, quote, reports),
+        }
     }
-    Progress { len, next }
-}
 
-// Reprices the line at the quote, and reports each changed order and each fill from the first report row on.
-pub fn reprice(rows: &mut [OrderRow], len: usize, reports: &mut [Report], quote: Quote) -> Progress
-    requires { (len ≤ length rows.old) × ((len ≤ 1024) × ((len + len ≤ length reports.old) × ((all_formed (take len rows.old) ≡ true) × (formed quote ≡ true)))) }
-    ensures made { Made (reprices quote (take len rows.old)) (take len rows.old) reports.old 0 (take result.len rows.new) reports.new result.next }
-    ensures formed { all_formed (take result.len rows.new) ≡ true }
-    ensures len { result.len ≤ len }
-    ensures within { result.next ≤ length reports.old }
-{
-    let mut first = [0; MOST_ROWS];
-    let mut second = [0; MOST_ROWS];
-    let fallers = gather(&rows[0..len], quote, Pass::First, &mut first);
-    let risers = gather(&rows[0..len], quote, Pass::Second, &mut second);
-    let next = first_pass(rows, len, reports, 0, &first[0..fallers], quote);
-    second_pass(rows, len, reports, next, &second[0..risers], quote)
+    // The pass over the orders of these numbers, one after another.
+    fn reprice_all(
+        &mut self,
+        pass: Pass,
+        numbers: &[u32],
+        quote: FormedQuote,
+        reports: &mut Reports,
+    )
+        requires { HasRoom (self.old.len + length numbers.now) reports.old }
+        ensures made { Makes (each (turn quote pass) numbers.now (held self.old)) self.old reports.old self.new reports.new }
+        ensures len { self.new.len ≤ self.old.len }
+        ensures most { reports.new.next + self.new.len ≤ reports.old.next + self.old.len + length numbers.now }
+    {
+        for number in numbers {
+            self.reprice_one(pass, *number, quote, reports);
+        }
+    }
+
+    // Reprices the line at the quote, and reports each changed order and each fill. The numbers of both passes are
+    // gathered first: rows move while it runs, and no order has its turn in both.
+    pub fn reprice(&mut self, quote: FormedQuote, reports: &mut Reports)
+        requires few { self.old.len ≤ 1024 }
+        requires room { HasRoom (2 * self.old.len) reports.old }
+        ensures made { Makes (reprices quote (held self.old)) self.old reports.old self.new reports.new }
+        ensures len { self.new.len ≤ self.old.len }
+    {
+        let first = self.numbers(quote, Pass::First);
+        let second = self.numbers(quote, Pass::Second);
+        self.reprice_all(Pass::First, &first, quote, reports);
+        self.reprice_all(Pass::Second, &second, quote, reports);
+    }
 }

@@ -28,13 +28,15 @@ fn takes_lead<R: Ranked>(row: &R, leader: &R, view: R::View) -> bool
     row.outranks(leader, view)
 }
 
-// The place of the earliest row that qualifies and that no row that qualifies outranks.
+// The place of the earliest row that qualifies and that no row that qualifies outranks. A loop: `min_by` asks for
+// an order, and rows that tie are not equal. The search lends out no row, only places (DECISIONS).
 pub fn first_ranked<R: Ranked>(rows: &[R], view: R::View) -> Option<usize>
     ensures { First (R.counts view) (R.ahead view) rows.now result }
 {
     let mut best: Option<usize> = None;
     for (i, row) in rows.iter().enumerate() {
         if row.qualifies(view) {
+            // tried with `is_none_or`: the loop's proof did not close
             match best {
                 None => best = Some(i),
                 Some(b) => {

@@ -21,9 +21,7 @@ impl Ranked for Venue {
     }
 
     fn outranks(&self, other: &Venue, side: Side) -> bool {
-        match (self.price(side), other.price(side)) {
-            (Some(price), Some(other)) => side.is_better(price, other),
-            _ => false,
-        }
+        let prices = self.price(side).zip(other.price(side));
+        prices.is_some_and(|(price, other)| side.is_better(price, other))
     }
 }

@@ -1,6 +1,9 @@
 -- Every row that the rules put into a line of formed rows is formed.
 use Rattle.std.proofs.Common.{◌≡◌, ℕ, zero, suc, ◌-◌, ◌<◌, Bool, true, false, cond, leb, [], ◌∷◌, ◌++◌, Some, None, Option, sym, refl, ap, ◌∙◌, subst, arith}
 use Rattle.std.proofs.lemmas.Bool.Decides.{nat_tests}
+use Rattle.std.proofs.lemmas.List.Folds.{list_all-append}
+use Rattle.std.specs.Cmp.{first_so, second_so}
+use Rattle.std.specs.Cmp.Derive.{both_true}
 use Rattle.std.specs.List.{slice_get}
 use Rattle.market.specs.declared.side.Side.{Side}
 use Rattle.market.specs.declared.side.Side.TheVariants.{Buy, Sell}
@@ -19,33 +22,31 @@ use Rattle.rules.specs.declared.trading.Fill.{Fill}
 use Rattle.rules.specs.Lines.{Line, fills, less_shares, unfilled, after, replace_at, to_end, all_formed}
 use Rattle.rules.specs.Arrival.{limit_or_collar, held_to, bound, reached, reached_by, remainder_of, remainder, remainder_rows}
 use Rattle.rules.specs.Repricing.{at_prices, at_limit, at_away, slid, off_limit, is_at_limit, repriced_as, repriced, follows}
-use Rattle.rules.proofs.Tests.{and_left, and_right, and_from, clash, none_some}
 use Rattle.rules.proofs.Rank.{first_top}
 use Rattle.rules.proofs.Trade.{Met, placed}
 
 -- LINES
 
 pub nth_formed : (line : Line) (i : ℕ) (r : OrderRow) → all_formed line ≡ true → slice_get line i ≡ Some r → formed r ≡ true
-nth_formed [] i r h e = none_some e
-nth_formed (x ∷ xs) zero r h e = let q : x ≡ r = cc in ap formed (sym q) ∙ and_left _ _ h
-nth_formed (x ∷ xs) (suc i) r h e = nth_formed xs i r (and_right _ _ h) e
+nth_formed [] i r h e = cc
+nth_formed (x ∷ xs) zero r h e = let q : x ≡ r = cc in ap formed (sym q) ∙ first_so _ _ h
+nth_formed (x ∷ xs) (suc i) r h e = nth_formed xs i r (second_so _ _ h) e
 
 pub append_formed : (xs ys : Line) → all_formed xs ≡ true → all_formed ys ≡ true → all_formed (xs ++ ys) ≡ true
-append_formed [] ys h k = k
-append_formed (x ∷ xs) ys h k = and_from _ _ (and_left _ _ h) (append_formed xs ys (and_right _ _ h) k)
+append_formed xs ys h k = list_all-append formed xs ys ∙ both_true h k
 
 pub replace_formed : (i : ℕ) (new line : Line) → all_formed line ≡ true → all_formed new ≡ true → all_formed (replace_at i new line) ≡ true
 replace_formed i new [] h k = refl
-replace_formed zero new (x ∷ xs) h k = append_formed new xs k (and_right _ _ h)
-replace_formed (suc i) new (x ∷ xs) h k = and_from _ _ (and_left _ _ h) (replace_formed i new xs (and_right _ _ h) k)
+replace_formed zero new (x ∷ xs) h k = append_formed new xs k (second_so _ _ h)
+replace_formed (suc i) new (x ∷ xs) h k = both_true (first_so _ _ h) (replace_formed i new xs (second_so _ _ h) k)
 
 pub to_end_formed : (i : ℕ) (line : Line) → all_formed line ≡ true → all_formed (to_end i line) ≡ true
 to_end_formed i [] h = refl
-to_end_formed zero (x ∷ xs) h = append_formed xs (x ∷ []) (and_right _ _ h) (and_from _ _ (and_left _ _ h) refl)
-to_end_formed (suc i) (x ∷ xs) h = and_from _ _ (and_left _ _ h) (to_end_formed i xs (and_right _ _ h))
+to_end_formed zero (x ∷ xs) h = append_formed xs (x ∷ []) (second_so _ _ h) (both_true (first_so _ _ h) refl)
+to_end_formed (suc i) (x ∷ xs) h = both_true (first_so _ _ h) (to_end_formed i xs (second_so _ _ h))
 
 pub one_formed : (r : OrderRow) → formed r ≡ true → all_formed (r ∷ []) ≡ true
-one_formed r h = and_from _ _ h refl
+one_formed r h = both_true h refl
 
 -- FILLS
 
@@ -53,7 +54,7 @@ fewer_countable : (n k : ℕ) → k < n → countable n ≡ true → countable (
 fewer_countable n k h e = grind (arith, nat_tests)
 
 pub less_formed : (r : OrderRow) (k : ℕ) → k < r.shares → formed r ≡ true → formed (less_shares k r) ≡ true
-less_formed r k h e = and_from (countable (r.shares - k)) _ (fewer_countable r.shares k h (and_left _ _ e)) (and_right (countable r.shares) _ e)
+less_formed r k h e = both_true (fewer_countable r.shares k h (first_so _ _ e)) (second_so (countable r.shares) _ e)
 
 pub unfilled_formed : (r : OrderRow) (k : ℕ) → formed r ≡ true → all_formed (unfilled r k) ≡ true
 unfilled_formed r k e = go (leb r.shares k) refl
@@ -88,19 +89,19 @@ held_inside Buy p (Some a) = grind (arith, nat_tests)
 held_inside Sell p (Some a) = grind (arith, nat_tests)
 
 pub reached_inside : (side : Side) (p : ℕ) (a : Option ℕ) (x : ℕ) → reached side p a ≡ Some x → inside side x p ≡ true
-reached_inside side p None x e = none_some e
+reached_inside side p None x e = cc
 reached_inside Buy p (Some y) x e = grind (arith, nat_tests)
 reached_inside Sell p (Some y) x e = grind (arith, nat_tests)
 
 pub rests_formed : (e : Entry) (w : ℕ) (d : Option ℕ) → countable e.shares ≡ true → inside e.side w e.limit ≡ true → displays_behind e.side d w ≡ true → formed (row_of e state.Resting w d) ≡ true
-rests_formed e w d c i s = and_from (countable e.shares) _ c (and_from (inside e.side w e.limit) _ i s)
+rests_formed e w d c i s = both_true c (both_true i s)
 
 module _ (q : Quote) (e : Entry) (c : countable e.shares ≡ true) where
   rests_at_limit : all_formed (row_of e state.Resting e.limit (Some e.limit) ∷ []) ≡ true
   rests_at_limit = one_formed (row_of e state.Resting e.limit (Some e.limit)) (rests_formed e e.limit (Some e.limit) c (inside_refl e.side e.limit) (inside_refl e.side e.limit))
 
   waits : all_formed (row_of e state.Waiting 0 None ∷ []) ≡ true
-  waits = one_formed (row_of e state.Waiting 0 None) (and_from (countable e.shares) _ c refl)
+  waits = one_formed (row_of e state.Waiting 0 None) (both_true c refl)
 
   hidden : Hidden ≡ e.kind → all_formed (row_of e state.Resting (bound q e) None ∷ []) ≡ true
   hidden k =
@@ -127,8 +128,8 @@ module _ (q : Quote) (e : Entry) (c : countable e.shares ≡ true) where
 module _ (r : OrderRow) (f : formed r ≡ true) where
   priced_formed : (w : ℕ) (d : Option ℕ) → inside r.side w r.limit ≡ true → displays_behind r.side d w ≡ true → r.state ≡ state.Resting → formed (at_prices w d r) ≡ true
   priced_formed w d i s k =
-      and_from (countable r.shares) _ (and_left _ _ f)
-      (ap (λ t. well_priced t r.side r.limit w d) k ∙ and_from (inside r.side w r.limit) _ i s)
+      both_true (first_so _ _ f)
+      (ap (λ t. well_priced t r.side r.limit w d) k ∙ both_true i s)
 
   limit_formed : r.state ≡ state.Resting → formed (at_limit r) ≡ true
   limit_formed k = priced_formed r.limit (Some r.limit) (inside_refl r.side r.limit) (inside_refl r.side r.limit) k
@@ -138,8 +139,8 @@ module _ (r : OrderRow) (f : formed r ≡ true) where
 
   display_inside : (d : ℕ) → r.display ≡ Some d → r.state ≡ state.Resting → inside r.side d r.limit ≡ true
   display_inside d e k =
-      let w : well_priced state.Resting r.side r.limit r.working (Some d) ≡ true = sym (λ i. well_priced (k i) r.side r.limit r.working (e i)) ∙ and_right (countable r.shares) _ f in
-      inside_trans r.side d r.working r.limit (and_right (inside r.side r.working r.limit) _ w) (and_left _ _ w)
+      let w : well_priced state.Resting r.side r.limit r.working (Some d) ≡ true = sym (λ i. well_priced (k i) r.side r.limit r.working (e i)) ∙ second_so (countable r.shares) _ f in
+      inside_trans r.side d r.working r.limit (second_so (inside r.side r.working r.limit) _ w) (first_so _ _ w)
 
   slid_formed : (o : Option ℕ) (a : ℕ) → r.display ≡ o → inside r.side a r.limit ≡ true → r.state ≡ state.Resting → formed (slid o a r) ≡ true
   slid_formed None a e i k = away_formed a i k
@@ -169,8 +170,8 @@ module _ (r : OrderRow) (f : formed r ≡ true) where
 
 resting_is : (s : State) → is_resting s ≡ true → s ≡ state.Resting
 resting_is state.Resting e = refl
-resting_is state.Waiting e = clash e refl
-resting_is state.Away e = clash e refl
+resting_is state.Waiting e = cc
+resting_is state.Away e = cc
 
 pub follower_formed : (q : Quote) (r : OrderRow) → formed r ≡ true → follows r ≡ true → formed (repriced q r) ≡ true
-follower_formed q r f h = repriced_formed r f q (resting_is r.state (and_left _ _ h))
+follower_formed q r f h = repriced_formed r f q (resting_is r.state (first_so _ _ h))

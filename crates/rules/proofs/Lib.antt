@@ -1,4 +1,3 @@
-pub mod Tests
 pub mod Events
 pub mod Rank
 pub mod Trade

@@ -7,7 +7,6 @@ use Rattle.market.specs.Rows.{rests_on, outranks}
 use Rattle.market.proofs.Outranking.{outranks_irrefl, outranks_asym, behind_trans}
 use Rattle.rules.specs.declared.trading.Placed.{Placed}
 use Rattle.rules.specs.Lines.{Line, first_ranked, ahead_of, at_front, one_back}
-use Rattle.rules.proofs.Tests.{clash, none_some}
 
 pub record Top (side : Side) (line : Line) (p : Placed) : Type 0 where
   pub there : slice_get line p.place ≡ Some p.row
@@ -21,7 +20,7 @@ Topped side line (Some p) = Top side line p
 
 module _ (side : Side) (x : OrderRow) (xs : Line) where
   none_here : rests_on side x ≡ false → Topped side xs None → Topped side (x ∷ xs) None
-  none_here off all zero r e h = let q : x ≡ r = cc in clash h (ap (rests_on side) (sym q) ∙ off)
+  none_here off all zero r e h = cc
   none_here off all (suc j) r e h = all j r e h
 
   front_first : rests_on side x ≡ true → ((j : ℕ) (r : OrderRow) → slice_get xs j ≡ Some r → rests_on side r ≡ true → outranks side r x ≡ false) → Top side (x ∷ xs) (at_front x)
@@ -53,10 +52,10 @@ module _ (side : Side) (x : OrderRow) (xs : Line) where
       go true e true d = passed p (λ _. d) f
       go true e false d = front_first e (λ j r a h. behind_trans side x p.row r d (f.above j r a h).0)
       go false e true d = passed p (λ _. d) f
-      go false e false d = passed p (λ t. clash t e) f
+      go false e false d = passed p (λ t. cc) f
 
 pub topped : (side : Side) (line : Line) → Topped side line (first_ranked side line)
-topped side [] = λ j r e h. none_some e
+topped side [] = λ j r e h. cc
 topped side (x ∷ xs) = more side x xs (first_ranked side xs) (topped side xs)
 
 pub first_top : (side : Side) (line : Line) (p : Placed) → first_ranked side line ≡ Some p → Top side line p

@@ -6,13 +6,12 @@ use Rattle.market.specs.declared.side.Side.{Side}
 use Rattle.market.specs.declared.side.Side.TheVariants.{Buy, Sell}
 use Rattle.market.specs.declared.row.OrderRow.{OrderRow}
 use Rattle.market.specs.declared.row.Entry.{Entry}
-use Rattle.market.specs.Sides.{opposite, inside, better}
+use Rattle.market.specs.Sides.{opposite, inside}
 use Rattle.market.specs.Rows.{rests_on, outranks}
 use Rattle.rules.specs.declared.trading.Placed.{Placed}
 use Rattle.rules.specs.declared.trading.Fill.{Fill}
 use Rattle.rules.specs.Lines.{Line, fills, first_ranked, less_shares, after, replace_at}
 use Rattle.rules.specs.Trading.{fewer, fill_with, next_fill, trade}
-use Rattle.rules.proofs.Tests.{or_left, clash, none_some}
 use Rattle.rules.proofs.Rank.{Topped, topped, first_top}
 
 abbrev pub placed : Fill → Placed
@@ -43,8 +42,8 @@ Next e bound line (Some f) = Met e bound line f
 
 -- a row that does not outrank one past the bound is past the bound
 past : (side : Side) (r m : OrderRow) (bound : ℕ) → outranks (opposite side) r m ≡ false → inside side m.working bound ≡ false → inside side r.working bound ≡ false
-past Buy r m bound o e = let k : better Sell r.working m.working ≡ false = or_left _ _ o in grind (arith, nat_tests)
-past Sell r m bound o e = let k : better Buy r.working m.working ≡ false = or_left _ _ o in grind (arith, nat_tests)
+past Buy r m bound o e = grind (arith, nat_tests)
+past Sell r m bound o e = grind (arith, nat_tests)
 
 pub upto : (e : Entry) (bound : ℕ) (line : Line) → Next e bound line (next_fill e bound line)
 upto e bound line = go (first_ranked (opposite e.side) line) refl (topped (opposite e.side) line)
@@ -62,7 +61,7 @@ upto e bound line = go (first_ranked (opposite e.side) line) refl (topped (oppos
 -- THE COUNT of fills is enough
 
 pub leaves_shorter : (i : ℕ) (line : Line) (r : OrderRow) → slice_get line i ≡ Some r → length (replace_at i [] line) < length line
-leaves_shorter i [] r e = none_some e
+leaves_shorter i [] r e = cc
 leaves_shorter zero (x ∷ xs) r e = omega arith
 leaves_shorter (suc i) (x ∷ xs) r e = let h = leaves_shorter i xs r e in omega arith
 
@@ -76,7 +75,7 @@ shrinks k e bound line f m (inl h) = go (leb f.resting.shares f.shares) refl
 
 pub trades : (k : ℕ) (e : Entry) (bound : ℕ) (line : Line) → (length line ≤ k) ⊎ (e.shares ≡ 0) → Traded e bound line (trade k e bound line)
 trades zero e bound line (inr z) = stops (inl z)
-trades zero e bound [] (inl h) = stops (inr (λ j r a g. none_some a))
+trades zero e bound [] (inl h) = stops (inr (λ j r a g. cc))
 trades zero e bound (x ∷ xs) (inl h) = absurd (omega arith)
 trades (suc k) e bound line h = go (trades k) (next_fill e bound line) (upto e bound line)
   where
@@ -91,7 +90,7 @@ not_done : {e : Entry} {bound : ℕ} {line : Line} {f : Fill} → Done e bound l
 not_done (inl z) m = let s = m.some in omega arith
 not_done {e} {bound} {line} {f} (inr clear) m =
     let h = first_top (opposite e.side) line (placed f) m.is in
-    clash m.lets (clear f.place f.resting h.there h.right)
+    cc (m.lets, clear f.place f.resting h.there h.right)
 
 one_met : {e : Entry} {bound : ℕ} {line : Line} (f g : Fill) → Met e bound line f → Met e bound line g → f ≡ g
 one_met {e} f g m n =

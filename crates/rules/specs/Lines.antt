@@ -1,5 +1,6 @@
 -- The line of orders: the first-ranked row of a side, and the events that change the line and are reported.
-use Rattle.std.specs.Prelude.{ℕ, zero, suc, ◌-◌, Bool, true, cond, not, ◌&&◌, List, [], ◌∷◌, ◌++◌, Some, None, Option, ◌==◌, nat_le}
+use Rattle.std.specs.Prelude.{ℕ, zero, suc, ◌-◌, Bool, cond, not, ◌&&◌, List, [], ◌∷◌, ◌++◌, Some, None, Option, ◌==◌, nat_le}
+use Rattle.std.specs.List.{list_all}
 use Rattle.market.specs.declared.side.Side.{Side}
 use Rattle.market.specs.declared.row.OrderRow.{OrderRow}
 use Rattle.market.specs.declared.report.Report.{Report}
@@ -25,8 +26,7 @@ to_end zero (x ∷ xs) = xs ++ (x ∷ [])
 to_end (suc i) (x ∷ xs) = x ∷ to_end i xs
 
 abbrev pub all_formed : Line → Bool
-all_formed [] = true
-all_formed (r ∷ rs) = formed r && all_formed rs
+all_formed line = list_all formed line
 
 -- THE FIRST-RANKED ROW of a side
 

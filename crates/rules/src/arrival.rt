@@ -14,6 +14,7 @@ pub enum Remainder {
 }
 
 impl Remainder {
+    // No `From`: what is reported is of the order in hand too.
     pub fn report(self, entry: Entry) -> Report
         ensures { result ≡ remainder_report entry self }
     {

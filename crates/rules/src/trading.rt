@@ -20,15 +20,15 @@ pub struct Fill {
     pub shares: u32,
 }
 
-impl Fill {
-    pub fn report(self) -> Report
-        ensures { result ≡ fill_report self }
-    {
+impl From<Fill> for Report {
+    ghost from_gives = { λ fill result. result ≡ fill_report fill };
+
+    fn from(fill: Fill) -> Report {
         Report::Filled {
-            number: self.trading.number,
-            resting: self.resting.number,
-            price: self.resting.working,
-            shares: self.shares,
+            number: fill.trading.number,
+            resting: fill.resting.number,
+            price: fill.resting.working,
+            shares: fill.shares,
         }
     }
 }

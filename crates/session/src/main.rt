@@ -22,23 +22,16 @@ fn read_bytes<R: Read + Drop>(heap: Global, source: R) -> io::Result<Vec<u8>>
     Ok(bytes)
 }
 
-// The bytes of a file. One that cannot be read counts as empty.
-fn read_file(rt: &HostRuntime, path: &str) -> Vec<u8>
-    ensures { vec_len result ≤ 65537 }
+fn read_file(rt: &HostRuntime, path: &str) -> io::Result<Vec<u8>>
+    ensures { IfOk result (λ v. vec_len v ≤ 65537) }
 {
-    let heap = rt.alloc();
-    let Ok(file) = File::open(rt, path) else {
-        return Vec::new(heap);
-    };
-    match read_bytes(heap, file) {
-        Ok(bytes) => bytes,
-        Err(_) => Vec::new(heap),
-    }
+    read_bytes(rt.alloc(), File::open(rt, path)?)
 }
 
 fn main(rt: HostRuntime) -> io::Result<()> {
     let heap = rt.alloc();
-    let quotes = read_file(&rt, "quotes.txt");
+    // a file that cannot be read counts as empty
+    let quotes = read_file(&rt, "quotes.txt").unwrap_or_else(|_| Vec::new(heap));
     let script = read_bytes(heap, rt.stdin())?;
     let text = session(heap, quotes.as_slice(), script.as_slice())?;
     print!(rt; "{text}")

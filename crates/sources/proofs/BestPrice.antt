@@ -1,7 +1,9 @@
 -- The first-ranked venue has the best price.
 use Rattle.std.proofs.Common.{◌≡◌, ℕ, zero, suc, Bool, true, false, cond, List, [], ◌∷◌, Some, None, Option, sym, refl, ap, ◌∙◌, subst, arith}
 use Rattle.std.specs.List.{slice_get}
+use Rattle.std.proofs.lemmas.Bool.{false≢true, true≢false}
 use Rattle.std.proofs.lemmas.Bool.Decides.{nat_tests}
+use Rattle.std.proofs.lemmas.Option.{none-some}
 use Rattle.market.specs.declared.side.Side.{Side}
 use Rattle.market.specs.declared.side.Side.TheVariants.{Buy, Sell}
 use Rattle.market.specs.declared.venue.Venue.{Venue}
@@ -28,7 +30,7 @@ same_price Buy a b h k = grind (arith, nat_tests)
 same_price Sell a b h k = grind (arith, nat_tests)
 
 never : {X : Type 0} {x : X} (o : Option X) → o ≡ None → o ≡ Some x → ⊥
-never o p q = let z : ◌≡◌ {A = ℕ} 0 1 = cc in omega arith
+never o p q = none-some _ (sym p ∙ q)
 
 -- THE DEFINITION HAS THE LAW
 
@@ -62,7 +64,7 @@ module _ (side : Side) (v : Venue) (vs : List Venue) where
   step (Some a) (Some b) e h = choose a b (better side b a) refl e h
 
 pub best_law : (side : Side) (vs : List Venue) → Best side vs (best side vs)
-best_law side [] = λ i v at. let z : ◌≡◌ {A = ℕ} 0 1 = cc in absurd (omega arith)
+best_law side [] = λ i v at. absurd (none-some v at)
 best_law side (v ∷ vs) = step side v vs (price_on side v) (best side vs) refl (best_law side vs)
 
 -- and nothing else has it
@@ -79,7 +81,7 @@ one_best side vs (Some p) (Some q) h k =
 
 quoting : (side : Side) (v : Venue) (o : Option ℕ) → price_on side v ≡ o → quotes_on side v ≡ true → (p : ℕ) × (price_on side v ≡ Some p)
 quoting side v (Some p) e h = (p, e)
-quoting side v None e h = let z : ◌≡◌ {A = Bool} true false = rw e at (sym h) in absurd (let n : ◌≡◌ {A = ℕ} 0 1 = cc in omega arith)
+quoting side v None e h = absurd (false≢true (rw e at h))
 
 module _ (side : Side) (vs : List Venue) where
   found_at : (i : ℕ) (u : Unbeaten (quotes_on side) (outquotes side) vs i) (p : ℕ) → price_on side u.row ≡ Some p → Best side vs (Some p)
@@ -101,7 +103,7 @@ module _ (side : Side) (vs : List Venue) where
 
   silent : (v : Venue) (o : Option ℕ) → price_on side v ≡ o → quotes_on side v ≡ false → price_on side v ≡ None
   silent v None e h = e
-  silent v (Some p) e h = let z : ◌≡◌ {A = Bool} true false = rw e at h in absurd (let n : ◌≡◌ {A = ℕ} 0 1 = cc in omega arith)
+  silent v (Some p) e h = absurd (true≢false (rw e at h))
 
   -- it finds none
   pub found_none : First (quotes_on side) (outquotes side) vs None → Best side vs None

@@ -1,7 +1,3 @@
-pub mod Formed
-pub mod Fronts
-pub mod Whole
-pub mod Holding
-pub mod StayFormed
 pub mod BestPrice
 pub mod Tables
+pub mod StayFormed

@@ -10,28 +10,28 @@ use Rattle.market.specs.Quotes.{quotable, formed, all_formed}
 use Rattle.market.specs.Sides.{better}
 use Rattle.market.specs.Venues.{is_venue, price_on, better_of, best}
 use Rattle.texts.specs.declared.montage.VenueQuote.{VenueQuote}
-use Rattle.texts.specs.Texts.{Place, first_of}
 use Rattle.texts.specs.Montages.{venue_line, is_venue_quote}
-use Rattle.sources.specs.Values.{values}
+use Rattle.texts.specs.declared.values.Values.{Values}
+use Rattle.texts.specs.Places.{place}
+use Rattle.texts.specs.Left.{left}
 use Rattle.sources.specs.Montages.{shown, latest, venues_after, best_quote, quotes_after, changed, table_quotes}
 use Rattle.texts.proofs.LinesWritten.{venue_written}
-use Rattle.sources.proofs.Holding.{values_fit}
+use Rattle.texts.proofs.Fit.{values_fit}
 
 -- THE LINES
 
 abbrev pub Proper : List VenueQuote → Type 0
 Proper = AllByRecursion (λ l. is_venue_quote l ≡ true)
 
-pub lines_proper : (at : Place) → Proper (values venue_line at)
-lines_proper = values_fit venue_written
+pub lines_proper : {g : _} (v : Values VenueQuote g) → Proper (left venue_line v)
+lines_proper v = values_fit venue_written (place v.lines)
 
 pub known_venue : (l : VenueQuote) → is_venue_quote l ≡ true → is_venue l.venue ≡ true
 known_venue l h = (and_parts (is_venue l.venue) (formed l.quote) h).0
 
 -- the venue of the first line is known
-pub first_known : (ls : List VenueQuote) (l : VenueQuote) → Proper ls → Some l ≡ first_of ls → is_venue l.venue ≡ true
-first_known [] l all is = let z : ◌≡◌ {A = ℕ} 0 1 = cc in absurd (omega arith)
-first_known (x ∷ ls) l all is = let e : l ≡ x = cc in rw e (known_venue x all.0)
+pub first_known : (ls more : List VenueQuote) (l : VenueQuote) → Proper ls → ls ≡ l ∷ more → is_venue l.venue ≡ true
+first_known ls more l all is = known_venue l (rw is at all).0
 
 -- THE TABLE
 

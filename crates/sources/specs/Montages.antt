@@ -5,14 +5,14 @@ use Rattle.std.specs.Result.{result_unwrap_or}
 use Rattle.market.specs.declared.quote.Quote.{Quote}
 use Rattle.market.specs.declared.side.Side.TheVariants.{Buy, Sell}
 use Rattle.market.specs.declared.venue.Venue.{Venue}
-use Rattle.market.specs.Venues.{best}
+use Rattle.market.specs.Venues.{showing, best}
 use Rattle.texts.specs.declared.montage.VenueQuote.{VenueQuote}
 use Rattle.texts.specs.Montages.{montage}
 use Rattle.sources.specs.Sources.{or_stand_in}
 
 -- the bid and the offer that a line gives its venue
 abbrev pub shown : VenueQuote → Venue
-shown l = record { bid = l.quote.bid; offer = l.quote.offer }
+shown l = showing l.quote
 
 -- what the venue n showed last, of the lines past, the latest first; nothing before its first line
 abbrev pub latest : ℕ → List VenueQuote → Venue

@@ -7,5 +7,4 @@ pub mod source;
 pub mod tape;
 #[cfg(test)]
 mod tests;
-mod values;
 mod venues;

@@ -1,13 +1,14 @@
 // A source of quotes: the one in force, and those that come after it.
 ghost use Rattle.std.specs.Prelude.{◌≡◌, ◌<◌, true, List, ◌∷◌, length, drop};
 ghost use Rattle.market.specs.declared.quote.Quote.{Quote};
-ghost use Rattle.market.specs.Quotes.{all_formed};
-ghost use Rattle.std.specs.Option.{unwrap_or};
+ghost use Rattle.market.specs.Quotes.{formed, all_formed};
+ghost use Rattle.texts.specs.Texts.{first_of};
 ghost use Rattle.sources.specs.Sources.{advanced};
-ghost use Rattle.sources.specs.Tapes.{the_quote};
 
 use market::quote::Quote;
 use market::refusal::Refusal;
+
+mod reading;
 
 pub trait QuoteSource {
     // The quote in force, then those that come after it.
@@ -30,15 +31,24 @@ pub trait QuoteSource {
         ensures after { quotes self.new ≡ (advanced (quotes self.old)).1 };
 }
 
-// The quote of a source over a text that is refused.
-const STAND_IN: Quote = Quote {
-    bid: None,
-    offer: None,
-    reference: 100,
-};
+// What gives quotes one after the other.
+pub trait Quotes {
+    ghost coming: { Self → List Quote };
 
-pub(crate) fn stand_in_for_none(quote: Option<Quote>) -> Quote
-    ensures { result ≡ unwrap_or quote the_quote }
-{
-    quote.unwrap_or(STAND_IN)
+    // The law: every quote is formed.
+    ghost each_formed: { (s : Self) → all_formed (coming s) ≡ true };
+
+    // The next quote, if there is one.
+    fn next_quote(&mut self) -> Option<Quote>
+        ensures value { result ≡ first_of (coming self.old) }
+        ensures after { coming self.new ≡ drop 1 (coming self.old) };
+}
+
+// A source that reads ahead no further than the quote in force.
+#[derive(Drop)]
+pub struct Reader<Q> {
+    // the quote in force
+    quote: Quote,
+    later: Q,
+    ghost well_formed: { formed quote ≡ true },
 }

@@ -1,4 +1,4 @@
-// The latest bid and offer of each venue.
+// The latest bid and offer of each venue: an array, since there are sixteen.
 ghost use Rattle.std.specs.Prelude.{◌≡◌, true, []};
 ghost use Rattle.market.specs.Venues.{is_venue, best as bestOf, Best};
 ghost use Rattle.sources.specs.Montages.{venues_after, changed, best_quote};
@@ -33,11 +33,7 @@ impl VenueTable {
         requires { is_venue line.venue ≡ true }
         ensures { self.new.rows ≡ changed line self.old.rows }
     {
-        let shown = Venue {
-            bid: line.quote.bid,
-            offer: line.quote.offer,
-        };
-        self.rows[(line.venue - 1) as usize] = shown;
+        self.rows[(line.venue - 1) as usize] = line.quote.into();
     }
 
     // The highest bid, or the lowest offer.
@@ -45,10 +41,8 @@ impl VenueTable {
         ensures value { result ≡ bestOf side self.now.rows }
         ensures law { Best side self.now.rows result }
     {
-        match first_ranked(&self.rows, side) {
-            Some(i) => self.rows[i].price(side),
-            None => None,
-        }
+        let first = first_ranked(&self.rows, side)?;
+        self.rows[first].price(side)
     }
 
     // The quote that the line gives.

@@ -3,32 +3,17 @@ use std::alloc::{AllocError, Global};
 use std::fmt;
 use texts::refusal::TextRefusal;
 
-// Accepted; or refused by a number, at a line and a column.
-#[derive(Clone, Copy, PartialEq, Eq)]
-pub enum Outcome {
-    Good,
-    Refused(u8, u32, usize),
-}
+// Refused by the number, at the line and the column.
+#[derive(Clone, Copy, Debug, PartialEq, Eq)]
+pub struct Refused(pub u8, pub u32, pub usize);
 
-impl Outcome {
-    pub fn of<T: Drop>(judged: Result<T, TextRefusal>) -> Outcome {
-        match judged {
-            Ok(_) => Outcome::Good,
-            Err(found) => Outcome::Refused(found.refusal.number(), found.line, found.column),
-        }
+impl From<TextRefusal> for Refused {
+    fn from(found: TextRefusal) -> Refused {
+        Refused(found.refusal.number(), found.line, found.column)
     }
 }
 
-impl fmt::Display for Outcome {
-    fn fmt<W: fmt::Write>(&self, f: &mut fmt::Formatter<W>) -> fmt::Result {
-        match *self {
-            Outcome::Good => write!(f, "accepted"),
-            Outcome::Refused(number, line, column) => {
-                write!(f, "refused {number} at {line}, {column}")
-            }
-        }
-    }
-}
+pub type Outcome = Result<(), Refused>;
 
 #[derive(Clone, Copy)]
 pub enum Text {

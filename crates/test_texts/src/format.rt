@@ -1,17 +1,13 @@
 // The three formats, and how a text of each is judged.
-use crate::case::{Case, Outcome};
+use crate::case::{Case, Outcome, Refused};
 use crate::montages::MONTAGES;
 use crate::scripts::SCRIPTS;
 use crate::tapes::TAPES;
 use std::alloc::{AllocError, Global};
 use std::fmt;
 use texts::montage::check_montage;
-use texts::refusal::TextRefusal;
 use texts::script::{Script, check_script};
 use texts::tape::check_tape;
-
-// As many lines as a script may have, and its end.
-const TURNS: u32 = 65_536;
 
 #[derive(Clone, Copy)]
 pub enum Format {
@@ -39,10 +35,11 @@ impl Format {
 
     pub fn judge(self, text: &[u8]) -> Outcome {
         match self {
-            Format::Tape => Outcome::of(check_tape(text)),
-            Format::Montage => Outcome::of(check_montage(text)),
-            Format::Script => Outcome::of(judge_script(text)),
+            Format::Tape => check_tape(text)?,
+            Format::Montage => check_montage(text)?,
+            Format::Script => judge_script(text)?,
         }
+        Ok(())
     }
 }
 
@@ -56,29 +53,17 @@ impl fmt::Display for Format {
     }
 }
 
-fn judge_script(text: &[u8]) -> Result<(), TextRefusal> {
+fn judge_script(text: &[u8]) -> Outcome {
     check_script(text)?;
-    let mut script = Script::over(text);
-    for _ in 0..TURNS {
-        match script.next() {
-            Some(line) => {
-                line?;
-            }
-            None => break,
-        }
+    for call in Script::over(text) {
+        call?;
     }
     Ok(())
 }
 
 // Each line of a script by itself.
 pub fn judge_lines(heap: Global, text: &[u8]) -> Result<Vec<Outcome>, AllocError> {
-    let mut outcomes = Vec::new(heap);
-    let mut script = Script::over(text);
-    for _ in 0..TURNS {
-        match script.next() {
-            Some(line) => outcomes.push(Outcome::of(line))?,
-            None => break,
-        }
-    }
-    Ok(outcomes)
+    Script::over(text)
+        .map(|call| call.map(|_| ()).map_err(Refused::from))
+        .collect(heap)
 }

@@ -21,7 +21,7 @@ fn texts_as_said(rt: &HostRuntime, format: Format) -> io::Result<usize> {
         if came == *outcome {
             right = right.saturating_add(1);
         } else {
-            println!(rt; "{format} {text}: {came}")?;
+            println!(rt; "{format} {text}: {came:?}")?;
         }
     }
     Ok(right)
@@ -38,7 +38,7 @@ fn scripts_as_said_by_lines(rt: &HostRuntime) -> io::Result<usize> {
         } else {
             print!(rt; "script {text}, by lines:")?;
             for outcome in came.iter() {
-                print!(rt; " {outcome};")?;
+                print!(rt; " {outcome:?};")?;
             }
             println!(rt)?;
         }

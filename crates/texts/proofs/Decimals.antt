@@ -2,6 +2,7 @@
 use Rattle.std.specs.Prelude.{◌≡◌, ℕ, ◌+◌, ◌-◌, ◌*◌, ◌<◌, Bool, true, false, cond, ◌&&◌, ltb, List, [], ◌∷◌, Some, None, decimal, Option, ◌≢◌, nat_lt, refl}
 use Rattle.std.proofs.Common.{sym, ap, subst, ◌∙◌, ⊎_elim, arith, rules}
 use Rattle.std.proofs.lemmas.Fmt.{decimal-digits_value, digits_decimal, digits_value-decimal, decimal_digit, decimal_nonempty, first_decimal, length-decimal-le}
+use Rattle.std.proofs.lemmas.Option.{none-some}
 use Rattle.std.proofs.lemmas.Str.Parse.{IsNumeralModel, IsDigitsTest, FoldsDigits, numerals_by_fold}
 use Rattle.std.proofs.lemmas.Bool.{cases_lt, ltb-true, lt-ltb}
 use Rattle.std.proofs.lemmas.Bool.Decides.{nat_tests}
@@ -54,8 +55,8 @@ read_back n small =
     let lt : ltb (value_after 0 (decimal n)) 4294967296 ≡ true = lt-ltb _ _ (omega arith) in
     number_is (decimal n) ∙ rw (sized_decimal n small, digits_decimal own n (omega arith), lt) (ap Some v)
 
-never : (cs : List ℕ) → number cs ≡ None → (n : ℕ) → n < 4294967296 → cs ≢ decimal n
-never cs none n small is = let back = read_back n small in let z : ◌≡◌ {A = ℕ} 0 1 = cc in omega arith
+pub never : (cs : List ℕ) → number cs ≡ None → (n : ℕ) → n < 4294967296 → cs ≢ decimal n
+never cs none n small is = none-some n (sym none ∙ ap number is ∙ read_back n small)
 
 by_conditions : (cs : List ℕ) (s d l : Bool) → sized cs ≡ s → all_digits cs ≡ d → nat_lt (value_after 0 cs) 4294967296 ≡ l → number cs ≡ cond (s && d && l) (Some (value_after 0 cs)) None → Decimal cs (cond (s && d && l) (Some (value_after 0 cs)) None)
 by_conditions cs true true true s d l is = let small = ltb-true (value_after 0 cs) 4294967296 l in (small, printed cs s d small)

@@ -1,34 +1,19 @@
 -- A text says just the values whose text it is.
-use Rattle.std.proofs.Common.{◌≡◌, ℕ, ◌+◌, Bool, true, false, cond, not, ◌&&◌, eqb, leb, List, [], ◌∷◌, ◌++◌, map, length, take, drop, Ok, Err, Result, sym, refl, ap, ◌∙◌, subst, arith, take-append-drop}
+use Rattle.std.proofs.Common.{◌≡◌, ℕ, ◌+◌, Bool, true, false, not, ◌&&◌, eqb, leb, List, [], ◌∷◌, ◌++◌, map, length, take, drop, Ok, Err, Result, sym, refl, ap, ◌∙◌, subst, arith, take-append-drop}
 use lib.ListN.{length-map}
 use lib.Seq.{take-append_seam, drop-append_seam}
 use Rattle.std.specs.List.{concat, AllByRecursion}
 use Rattle.std.specs.Str.{bytes_eq}
 use Rattle.std.proofs.lemmas.Slice.Eq.{bytes_eq-Decides}
-use Rattle.std.proofs.lemmas.Bool.{and_parts, and_from, leb-true, le-leb, false≢true}
+use Rattle.std.proofs.lemmas.Bool.{and_parts, and_from, leb-true, le-leb, false≢true, not-true}
 use Rattle.texts.specs.declared.refusal.Fault.{Fault}
-use Rattle.texts.specs.Pieces.{onto, pieces}
+use Rattle.texts.specs.Pieces.{pieces}
+use Rattle.texts.proofs.Answered.{no_value}
+use Rattle.texts.proofs.Cuts.{joined_pieces}
 use Rattle.texts.specs.Writing.{one_line, Written}
 use Rattle.texts.specs.Texts.{numbered, both, lines, text, text_of, Writable, Exact}
 
 -- PIECES
-
-joined_onto : (b : ℕ) (ps : List (List ℕ)) → concat (onto b ps) ≡ b ∷ concat ps
-joined_onto b [] = refl
-joined_onto b (p ∷ ps) = refl
-
-joined_cut : (t : Bool) (b : ℕ) (ps : List (List ℕ)) (bs : List ℕ) → concat ps ≡ bs → concat (cond t ((b ∷ []) ∷ ps) (onto b ps)) ≡ b ∷ bs
-joined_cut true b ps bs is = ap (λ xs. b ∷ xs) is
-joined_cut false b ps bs is = joined_onto b ps ∙ ap (λ xs. b ∷ xs) is
-
--- no byte is lost
-pub joined_pieces : (end : ℕ) (bs : List ℕ) → concat (pieces end bs) ≡ bs
-joined_pieces end [] = refl
-joined_pieces end (b ∷ bs) = joined_cut (eqb b end) b (pieces end bs) bs (joined_pieces end bs)
-
-not_true : (t : Bool) → not t ≡ true → t ≡ false
-not_true true h = absurd (false≢true h)
-not_true false h = refl
 
 -- a line in front is the first piece
 line_first : (l zs : List ℕ) → one_line l ≡ true → pieces 10 (l ++ zs) ≡ l ∷ pieces 10 zs
@@ -36,18 +21,18 @@ line_first [] zs is = absurd (false≢true is)
 line_first (b ∷ []) zs is = rw is
 line_first (b ∷ c ∷ cs) zs is =
     let parts = and_parts (not (eqb b 10)) (one_line (c ∷ cs)) is in
-    rw (not_true (eqb b 10) parts.0, line_first (c ∷ cs) zs parts.1)
+    rw (not-true (eqb b 10) parts.0, line_first (c ∷ cs) zs parts.1)
 
 -- ROWS
 
 both_good : {X E : Type 0} (r : Result X E) (rs : Result (List X) E) (xs : List X) → both r rs ≡ Ok xs → (x : X) × (ys : List X) × (r ≡ Ok x) × (rs ≡ Ok ys) × (xs ≡ x ∷ ys)
 both_good (Ok x) (Ok ys) xs is = let e : xs ≡ x ∷ ys = cc in (x, ys, refl, refl, e)
-both_good (Ok x) (Err e) xs is = absurd (let z : ◌≡◌ {A = ℕ} 0 1 = cc in omega arith)
-both_good (Err e) rs xs is = absurd (let z : ◌≡◌ {A = ℕ} 0 1 = cc in omega arith)
+both_good (Ok x) (Err e) xs is = no_value is
+both_good (Err e) rs xs is = no_value is
 
 numbered_good : {X : Type 0} (n : ℕ) (r : Result X Fault) (x : X) → numbered n r ≡ Ok x → r ≡ Ok x
 numbered_good n (Ok y) x is = let e : y ≡ x = cc in ap Ok e
-numbered_good n (Err f) x is = absurd (let z : ◌≡◌ {A = ℕ} 0 1 = cc in omega arith)
+numbered_good n (Err f) x is = no_value is
 
 module _ {X : Type 0} {f : List ℕ → Result X Fault} {written : X → List ℕ} {writable : X → Bool} (law : Written one_line f written writable) where
   abbrev AllFit : List X → Type 0
@@ -87,8 +72,8 @@ module _ {X : Type 0} {f : List ℕ → Result X Fault} {written : X → List �
           record { enough = omega arith; few = omega arith; each = r.1 },
           sym (take-append-drop (length header) bs) ∙ ap (λ t. t ++ rest) (sym head) ∙ ap (λ t. header ++ t) (sym (joined_pieces 10 rest) ∙ ap concat r.0),
         )
-    says_by bs xs true false h n is = absurd (let is' = rw (h, n) at is in let z : ◌≡◌ {A = ℕ} 0 1 = cc in omega arith)
-    says_by bs xs false b h n is = absurd (let is' = rw h at is in let z : ◌≡◌ {A = ℕ} 0 1 = cc in omega arith)
+    says_by bs xs true false h n is = no_value (rw (h, n) at is)
+    says_by bs xs false b h n is = no_value (rw h at is)
 
     text_back : (xs : List X) → Writable writable least most xs → text header f least most (text_of header written xs) ≡ Ok xs
     text_back xs ok =

@@ -17,6 +17,7 @@ use Rattle.market.specs.Venues.{is_venue}
 use Rattle.texts.specs.declared.field.CallWord.{CallWord}
 use Rattle.texts.specs.declared.field.CallWord.TheVariants.{Enter, Amend, Cancel, Advance}
 use Rattle.texts.specs.declared.field.Unused.{Unused}
+use Rattle.texts.proofs.Answered.{no_value}
 use Rattle.texts.specs.Numbers.{digit, number, Decimal}
 use Rattle.texts.specs.Writing.{plain, Written}
 use Rattle.texts.specs.FieldKinds.{ranged, is_number, is_firm, grid_price_text, is_grid_price, priced, price_or_none_text, is_price_or_none, venue_number_text, is_venue_number, word, any, side_field, side_text, kind_field, kind_text, call_word_field, call_word_text, unused_field, unused_text}
@@ -48,10 +49,10 @@ module _ {X : Type 0} {test : ℕ → Bool} {value : ℕ → X} {text : X → Li
       let e : value n ≡ x = cc in
       let v = c.valued n d.0 is in
       (rw (← e) v.1, d.1 ∙ ap decimal (sym v.0) ∙ sym (c.texts (value n)) ∙ ap text e)
-  in_range bs n false x d is ok = let z : ◌≡◌ {A = ℕ} 0 1 = cc in absurd (omega arith)
+  in_range bs n false x d is ok = no_value ok
 
   read_in : (bs : List ℕ) (o : Option ℕ) (x : X) → Decimal bs o → ranged test value o ≡ Ok x → (writable x ≡ true) × (bs ≡ text x)
-  read_in bs None x d is = let z : ◌≡◌ {A = ℕ} 0 1 = cc in absurd (omega arith)
+  read_in bs None x d is = no_value is
   read_in bs (Some n) x d is = in_range bs n (test n) x d refl is
 
   pub numbers_written : Written plain (λ bs. ranged test value (number bs)) text writable
@@ -127,7 +128,7 @@ words text (x ∷ xs) = (text x, x) ∷ words text xs
 
 module _ {X : Type 0} (text : X → List ℕ) where
   pub word_read : (xs : List X) (bs : List ℕ) (x : X) → word (words text xs) bs ≡ Ok x → bs ≡ text x
-  word_read [] bs x is = let z : ◌≡◌ {A = ℕ} 0 1 = cc in absurd (omega arith)
+  word_read [] bs x is = no_value is
   word_read (y ∷ ys) bs x is = chosen (bytes_eq bs (text y)) refl is (word_read ys bs x)
     where
       chosen : (t : Bool) → bytes_eq bs (text y) ≡ t → cond t (Ok y) (word (words text ys) bs) ≡ Ok x → (word (words text ys) bs ≡ Ok x → bs ≡ text x) → bs ≡ text x

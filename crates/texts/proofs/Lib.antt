@@ -1,5 +1,5 @@
+pub mod Answered
 pub mod Cuts
-pub mod Steps
 pub mod Decimals
 pub mod FieldsWritten
 pub mod Ends
@@ -10,3 +10,4 @@ pub mod CallsWritten
 pub mod Exactness
 pub mod Refusing
 pub mod Reading
+pub mod Fit

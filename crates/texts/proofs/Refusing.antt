@@ -6,6 +6,7 @@ use Rattle.texts.specs.declared.refusal.Fault.{Fault}
 use Rattle.texts.specs.Fields.{AtAByte}
 use Rattle.texts.specs.Pieces.{onto, pieces}
 use Rattle.texts.specs.declared.refusal.TextRefusal.{TextRefusal}
+use Rattle.texts.proofs.Answered.{no_refusal}
 use Rattle.texts.specs.Texts.{numbered, both, lines, text, checked, Placed}
 
 -- NO PIECE IS EMPTY
@@ -44,11 +45,11 @@ first_bad n l ls (Err g) rest e at more is =
     let was : record { refusal = g.refusal; line = n; column = g.column } ≡ e = cc in
     subst (Bad n (l ∷ ls)) was (record { index = 0; line = l; here = refl; number = omega arith; low = at.0; high = at.1 })
 first_bad n l ls (Ok x) (Err d) e at more is = let was : d ≡ e = cc in later n l ls e (more (ap Err was))
-first_bad n l ls (Ok x) (Ok xs) e at more is = absurd (let z : ◌≡◌ {A = ℕ} 0 1 = cc in omega arith)
+first_bad n l ls (Ok x) (Ok xs) e at more is = no_refusal is
 
 module _ {X : Type 0} (f : List ℕ → Result X Fault) (law : (l : List ℕ) → 0 < length l → AtAByte (length l) (f l)) where
   rows_bad : (n : ℕ) (ls : List (List ℕ)) → NoneEmpty ls → (e : TextRefusal) → lines f n ls ≡ Err e → Bad n ls e
-  rows_bad n [] all e is = absurd (let z : ◌≡◌ {A = ℕ} 0 1 = cc in omega arith)
+  rows_bad n [] all e is = no_refusal is
   rows_bad n (l ∷ ls) all e is = first_bad n l ls (f l) (lines f (n + 1) ls) e (law l all.0) (rows_bad (n + 1) ls all.1 e) is
 
   -- TEXTS

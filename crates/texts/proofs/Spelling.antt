@@ -9,6 +9,7 @@ use Rattle.market.specs.declared.refusal.Refusal.{Refusal}
 use Rattle.texts.specs.declared.refusal.Fault.{Fault}
 use Rattle.texts.specs.Pieces.{onto, pieces, body}
 use Rattle.texts.specs.Fields.{Cursor, Reader, placed, and_then, field, done, start, line}
+use Rattle.texts.proofs.Answered.{no_value}
 use Rattle.texts.proofs.Ends.{has_end}
 use Rattle.texts.specs.Writing.{plain, fields_text, one_line, Written}
 
@@ -87,8 +88,7 @@ nothing_more : {X : Type 0} (v : X) (last col : ℕ) (s : List ℕ) (x : X) → 
 nothing_more v last col [] x is = let e : x ≡ v = cc in (e, refl)
 nothing_more v last col (b ∷ bs) x is =
     let c = cut_first 44 (b ∷ bs) (omega arith) in
-    let is' = rw c.cut at is in
-    absurd (let z : ◌≡◌ {A = ℕ} 0 1 = cc in omega arith)
+    no_value (rw c.cut at is)
 
 pub done_spelled : {X : Type 0} (v : X) → Spelled (done v) (λ x s. (x ≡ v) × (s ≡ []))
 done_spelled v = record { spells = λ last col s x _ is. nothing_more v last col s x is; reads = λ last col s x h. rw (h.0, h.1) }
@@ -106,7 +106,7 @@ pub record Part {F X : Type 0} (text : F → List ℕ) (writable : F → Bool) (
 
 module _ {F X : Type 0} {f : List ℕ → Result F Refusal} {text : F → List ℕ} {writable : F → Bool} (w : Written plain f text writable) (more : F → Reader X) (W : F → X → List ℕ → Type 0) (each : (y : F) → Spelled (more y) (W y)) where
   value_read : (last col : ℕ) (s : List ℕ) (x : X) (c : Cut 44 s) → has_end s ≡ true → (r : Result F Refusal) → f c.front ≡ r → and_then (placed col r) (λ y. more y (place last (col + length (c.front ++ c.last ∷ [])) c.after)) ≡ Ok x → Part text writable W x s
-  value_read last col s x c ends (Err e) read is = absurd (let z : ◌≡◌ {A = ℕ} 0 1 = cc in omega arith)
+  value_read last col s x c ends (Err e) read is = no_value is
   value_read last col s x c ends (Ok y) read is =
       let r = w.read c.front y read in
       let ends-whole : has_end (c.front ++ c.last ∷ c.after) ≡ true = rw c.whole at ends in
@@ -122,7 +122,7 @@ module _ {F X : Type 0} {f : List ℕ → Result F Refusal} {text : F → List �
       }
 
   one_field : (last col : ℕ) (s : List ℕ) (x : X) → (0 < length s → has_end s ≡ true) → field f more (place last col s) ≡ Ok x → Part text writable W x s
-  one_field last col [] x ends is = absurd (let z : ◌≡◌ {A = ℕ} 0 1 = cc in omega arith)
+  one_field last col [] x ends is = no_value is
   one_field last col (b ∷ bs) x ends is =
       let c = cut_first 44 (b ∷ bs) (omega arith) in
       value_read last col (b ∷ bs) x c (ends (omega arith)) (f c.front) refl (rw (c.cut, body_of c.front c.last) at is)
@@ -151,11 +151,11 @@ mapped_spelled {X} g read W each = record {
   where
     from : (last col : ℕ) (s : List ℕ) (y : _) → (0 < length s → has_end s ≡ true) → (r : Result X Fault) → read (place last col s) ≡ r → result_map_both g (λ e. e) r ≡ Ok y → (x : X) × (y ≡ g x) × W x s
     from last col s y ends (Ok x) was is = let e : y ≡ g x = cc in (x, e, each.spells last col s x ends was)
-    from last col s y ends (Err e) was is = absurd (let z : ◌≡◌ {A = ℕ} 0 1 = cc in omega arith)
+    from last col s y ends (Err e) was is = no_value is
 
 ended_true : (l : List ℕ) (t : Bool) {X : Type 0} (r : Result X Fault) (x : X) (e : Fault) → and_then (cond {A = Result (Unit {0}) Fault} t (Ok (tt {0})) (Err e)) (λ _. r) ≡ Ok x → (t ≡ true) × (r ≡ Ok x)
 ended_true l true r x e is = (refl, is)
-ended_true l false r x e is = absurd (let z : ◌≡◌ {A = ℕ} 0 1 = cc in omega arith)
+ended_true l false r x e is = no_value is
 
 -- a whole line
 pub line_spelled : {X : Type 0} (read : Reader X) (W : X → List ℕ → Type 0) → Spelled read W → (l : List ℕ) (x : X) → line read l ≡ Ok x → W x l

@@ -1,6 +1,7 @@
 -- The kinds of field, and what the bytes of each say.
-use Rattle.std.specs.Prelude.{ℕ, Bool, true, cond, ◌||◌, List, [], ◌∷◌, Some, None, Ok, Err, codes, decimal, Option, Result, ◌==◌, nat_le, nat_lt}
+use Rattle.std.specs.Prelude.{◌≡◌, ℕ, Bool, true, cond, ◌||◌, List, [], ◌∷◌, Some, None, Ok, Err, codes, decimal, Option, Result, ◌==◌, nat_le, nat_lt}
 use Rattle.std.specs.Option.{unwrap_or}
+use Rattle.std.specs.Result.{result_map_both}
 use Rattle.std.specs.Str.{bytes_eq}
 use Rattle.market.specs.declared.refusal.Refusal.{Refusal}
 use Rattle.market.specs.declared.refusal.Refusal.TheVariants.{BadField, OutOfRange}
@@ -23,6 +24,15 @@ use Rattle.texts.specs.Numbers.{number}
 abbrev pub ranged : {X : Type 0} → (ℕ → Bool) → (ℕ → X) → Option ℕ → Result X Refusal
 ranged test value None = Err BadField
 ranged test value (Some n) = cond (test n) (Ok (value n)) (Err OutOfRange)
+
+-- the same of a number that is read
+abbrev pub in_range : {X : Type 0} → (ℕ → Bool) → (ℕ → X) → ℕ → Result X Refusal
+in_range test value n = ranged test value (Some n)
+
+-- what a conversion makes of the number that is read, or that there is none
+abbrev pub Ranges : {X E : Type 0} → (ℕ → Result X E → Type 0) → Option ℕ → Result X Refusal → Type 0
+Ranges gives None r = r ≡ Err BadField
+Ranges {X} {E} gives (Some n) r = (made : Result X E) × gives n made × (r ≡ result_map_both (λ x. x) (λ _. OutOfRange) made)
 
 abbrev pub number_field : List ℕ → Result ℕ Refusal
 number_field bs = ranged (λ _. true) (λ n. n) (number bs)

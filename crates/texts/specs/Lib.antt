@@ -9,5 +9,9 @@ pub mod Scripts
 pub mod Writing
 pub mod Montages
 pub mod Places
+pub mod Cuts
+pub mod Faults
+pub mod Values
+pub mod Left
 pub mod Views
 pub mod Kinds

@@ -1,9 +1,11 @@
 // The kinds of field: each is a type that says how it is read.
-ghost use Rattle.std.specs.Prelude.{◌≡◌, ℕ, List, Result};
-ghost use Rattle.std.specs.Str.{bytes_eq};
+ghost use Rattle.std.specs.Prelude.{◌≡◌, ℕ, ◌||◌, List, Result, ◌==◌};
 ghost use Rattle.market.specs.declared.refusal.Refusal.{Refusal};
+ghost use Rattle.market.specs.Prices.{on_grid};
+ghost use Rattle.market.specs.Venues.{is_venue as isVenue};
+ghost use Rattle.texts.specs.Numbers.{number};
 ghost use Rattle.texts.specs.Kinds.{KindsWritten};
-ghost use Rattle.texts.specs.FieldKinds.{number_field, firm_field, side_field, kind_field, call_word_field, unused_field, grid_price_field, price_or_none_field, venue_number_field};
+ghost use Rattle.texts.specs.FieldKinds.{in_range, Ranges, priced, number_field, firm_field, side_field, kind_field, call_word_field, unused_field, grid_price_field, price_or_none_field, venue_number_field};
 
 use crate::number::read_number;
 use market::price::is_on_grid;
@@ -51,10 +53,57 @@ pub enum CallWord {
 #[derive(Clone, Copy)]
 pub struct Unused;
 
-fn is_word(field: &[u8], word: &[u8]) -> bool
-    ensures { result ≡ bytes_eq field.now word.now }
+impl TryFrom<u32> for GridPrice {
+    type Error = Refusal;
+
+    ghost try_from_gives = { λ n r. r ≡ in_range on_grid (λ p. record { price = p }) n };
+
+    fn try_from(price: u32) -> Result<GridPrice, Refusal> {
+        if is_on_grid(price) {
+            Ok(GridPrice { price })
+        } else {
+            Err(Refusal::OutOfRange)
+        }
+    }
+}
+
+impl TryFrom<u32> for PriceOrNone {
+    type Error = Refusal;
+
+    ghost try_from_gives = { λ n r. r ≡ in_range (λ p. (p == 0) || on_grid p) (λ p. record { price = priced p }) n };
+
+    fn try_from(number: u32) -> Result<PriceOrNone, Refusal> {
+        match number {
+            0 => Ok(PriceOrNone { price: None }),
+            price if is_on_grid(price) => Ok(PriceOrNone { price: Some(price) }),
+            _ => Err(Refusal::OutOfRange),
+        }
+    }
+}
+
+impl TryFrom<u32> for VenueNumber {
+    type Error = Refusal;
+
+    ghost try_from_gives = { λ n r. r ≡ in_range isVenue (λ v. record { number = v }) n };
+
+    fn try_from(number: u32) -> Result<VenueNumber, Refusal> {
+        if is_venue(number) {
+            Ok(VenueNumber { number })
+        } else {
+            Err(Refusal::OutOfRange)
+        }
+    }
+}
+
+// A number in range, as the value that it stands for. Each kind calls it in an impl of its own: one for all that are
+// `TryFrom<u32>` would claim the kinds of words too.
+fn read_ranged<T: TryFrom<u32>>(field: &[u8]) -> Result<T, Refusal>
+where
+    T::Error: Drop,
+    ensures { Ranges T.TryFrom.try_from_gives (number field.now) result }
 {
-    field == word
+    let number = read_number(field).ok_or(Refusal::BadField)?;
+    T::try_from(number).map_err(|_| Refusal::OutOfRange)
 }
 
 // A number is read as it is, whatever it counts.
@@ -62,10 +111,7 @@ impl Field for u32 {
     ghost meaning = { number_field };
 
     fn read(field: &[u8]) -> Result<u32, Refusal> {
-        match read_number(field) {
-            Some(n) => Ok(n),
-            None => Err(Refusal::BadField),
-        }
+        read_number(field).ok_or(Refusal::BadField)
     }
 }
 
@@ -74,11 +120,7 @@ impl Field for u16 {
     ghost meaning = { firm_field };
 
     fn read(field: &[u8]) -> Result<u16, Refusal> {
-        match read_number(field) {
-            Some(n) if n <= 65535 => Ok(n as u16),
-            Some(_) => Err(Refusal::OutOfRange),
-            None => Err(Refusal::BadField),
-        }
+        read_ranged(field)
     }
 }
 
@@ -86,11 +128,7 @@ impl Field for GridPrice {
     ghost meaning = { grid_price_field };
 
     fn read(field: &[u8]) -> Result<GridPrice, Refusal> {
-        match read_number(field) {
-            Some(price) if is_on_grid(price) => Ok(GridPrice { price }),
-            Some(_) => Err(Refusal::OutOfRange),
-            None => Err(Refusal::BadField),
-        }
+        read_ranged(field)
     }
 }
 
@@ -98,12 +136,7 @@ impl Field for PriceOrNone {
     ghost meaning = { price_or_none_field };
 
     fn read(field: &[u8]) -> Result<PriceOrNone, Refusal> {
-        match read_number(field) {
-            Some(0) => Ok(PriceOrNone { price: None }),
-            Some(price) if is_on_grid(price) => Ok(PriceOrNone { price: Some(price) }),
-            Some(_) => Err(Refusal::OutOfRange),
-            None => Err(Refusal::BadField),
-        }
+        read_ranged(field)
     }
 }
 
@@ -111,11 +144,7 @@ impl Field for VenueNumber {
     ghost meaning = { venue_number_field };
 
     fn read(field: &[u8]) -> Result<VenueNumber, Refusal> {
-        match read_number(field) {
-            Some(number) if is_venue(number) => Ok(VenueNumber { number }),
-            Some(_) => Err(Refusal::OutOfRange),
-            None => Err(Refusal::BadField),
-        }
+        read_ranged(field)
     }
 }
 
@@ -123,12 +152,10 @@ impl Field for Side {
     ghost meaning = { side_field };
 
     fn read(field: &[u8]) -> Result<Side, Refusal> {
-        if is_word(field, b"buy") {
-            Ok(Side::Buy)
-        } else if is_word(field, b"sell") {
-            Ok(Side::Sell)
-        } else {
-            Err(Refusal::BadField)
+        match field {
+            b"buy" => Ok(Side::Buy),
+            b"sell" => Ok(Side::Sell),
+            _ => Err(Refusal::BadField),
         }
     }
 }
@@ -137,18 +164,13 @@ impl Field for Kind {
     ghost meaning = { kind_field };
 
     fn read(field: &[u8]) -> Result<Kind, Refusal> {
-        if is_word(field, b"limit") {
-            Ok(Kind::Limit)
-        } else if is_word(field, b"ioc") {
-            Ok(Kind::Ioc)
-        } else if is_word(field, b"market") {
-            Ok(Kind::Market)
-        } else if is_word(field, b"hidden") {
-            Ok(Kind::Hidden)
-        } else if is_word(field, b"nonroute") {
-            Ok(Kind::NonRoutable)
-        } else {
-            Err(Refusal::BadField)
+        match field {
+            b"limit" => Ok(Kind::Limit),
+            b"ioc" => Ok(Kind::Ioc),
+            b"market" => Ok(Kind::Market),
+            b"hidden" => Ok(Kind::Hidden),
+            b"nonroute" => Ok(Kind::NonRoutable),
+            _ => Err(Refusal::BadField),
         }
     }
 }
@@ -157,16 +179,12 @@ impl Field for CallWord {
     ghost meaning = { call_word_field };
 
     fn read(field: &[u8]) -> Result<CallWord, Refusal> {
-        if is_word(field, b"enter") {
-            Ok(CallWord::Enter)
-        } else if is_word(field, b"amend") {
-            Ok(CallWord::Amend)
-        } else if is_word(field, b"cancel") {
-            Ok(CallWord::Cancel)
-        } else if is_word(field, b"advance") {
-            Ok(CallWord::Advance)
-        } else {
-            Err(Refusal::BadField)
+        match field {
+            b"enter" => Ok(CallWord::Enter),
+            b"amend" => Ok(CallWord::Amend),
+            b"cancel" => Ok(CallWord::Cancel),
+            b"advance" => Ok(CallWord::Advance),
+            _ => Err(Refusal::BadField),
         }
     }
 }
@@ -175,10 +193,9 @@ impl Field for Unused {
     ghost meaning = { unused_field };
 
     fn read(field: &[u8]) -> Result<Unused, Refusal> {
-        if is_word(field, b"-") {
-            Ok(Unused)
-        } else {
-            Err(Refusal::BadField)
+        match field {
+            b"-" => Ok(Unused),
+            _ => Err(Refusal::BadField),
         }
     }
 }

@@ -3,12 +3,14 @@
 
 pub mod field;
 pub mod fields;
+pub mod frame;
 pub mod lines;
 pub mod montage;
 pub mod number;
-pub mod reader;
+pub mod pieces;
 pub mod refusal;
 pub mod script;
 pub mod tape;
 #[cfg(test)]
 mod tests;
+pub mod values;

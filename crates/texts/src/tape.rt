@@ -1,19 +1,27 @@
 // Tapes: a first line, and one to 65,535 lines of a quote each.
-ghost use Rattle.std.specs.Prelude.{◌≡◌, length, drop};
+ghost use Rattle.std.specs.Prelude.{◌≡◌, [], length, drop};
+ghost use Rattle.std.specs.Result.{result_unwrap_or};
 ghost use Rattle.market.specs.Quotes.{formed};
 ghost use Rattle.texts.specs.Cursors.{cursor};
 ghost use Rattle.texts.specs.Pieces.{pieces};
+ghost use Rattle.texts.specs.Places.{place};
+ghost use Rattle.texts.specs.Left.{left};
 ghost use Rattle.texts.specs.Tapes.{quote_fields, quote_line, quote_text, tape_header, tape};
 ghost use Rattle.texts.specs.Texts.{checked, Exact, Placed};
 
 use crate::field::{GridPrice, PriceOrNone};
 use crate::fields::{Fields, check_ended};
-use crate::lines::{Line, MOST_LINES, check_text};
+use crate::frame::{Frame, MOST_LINES};
+use crate::lines::Line;
 use crate::refusal::{Fault, TextRefusal};
+use crate::values::Values;
 use market::quote::Quote;
 
-// The first line, with its LF.
-pub const HEADER: &[u8; 14] = b"bid,offer,ref\n";
+pub const TAPE: Frame<'static> = Frame {
+    header: b"bid,offer,ref\n",
+    least: 1,
+    most: MOST_LINES,
+};
 
 // The fields of a quote, to the end of the line.
 pub(crate) fn read_fields(mut fields: Fields<'_>) -> Result<Quote, Fault>
@@ -46,17 +54,19 @@ impl Line for Quote {
     }
 }
 
-fn check(text: &[u8]) -> Result<(), TextRefusal>
-    ensures { result ≡ checked (tape text.now) }
-{
-    check_text::<Quote>(text, HEADER, 1, MOST_LINES)
-}
-
-// Refuses a text that is no tape.
+// Refuses a text that is no tape. A function for each format, since each carries the laws of its own.
 pub fn check_tape(text: &[u8]) -> Result<(), TextRefusal>
     ensures answer { result ≡ checked (tape text.now) }
     ensures law { Exact tape_header quote_line quote_text formed 1 65535 text.now }
     ensures place { Placed (pieces 10 (drop (length tape_header) text.now)) result }
 {
-    check(text)
+    TAPE.check::<Quote>(text)
+}
+
+// The quotes of a tape; none where the text is refused.
+pub fn tape_lines(text: &[u8]) -> Values<'_, Quote>
+    ensures values { left quote_line result ≡ result_unwrap_or (tape text.now) [] }
+    ensures number { (place result.lines).number ≡ 2 }
+{
+    TAPE.values(text)
 }

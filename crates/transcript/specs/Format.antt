@@ -1,52 +1,46 @@
 -- The printed report, line by line.
-use Rattle.std.specs.Prelude.{ℕ, Bool, List, [], ◌++◌, length, take, vec_items, codes, decimal}
+use Rattle.std.specs.Prelude.{◌≡◌, ℕ, ◌+◌, Bool, true, List, [], ◌∷◌, ◌++◌, length, take, is_some, Some, None, Ok, Err, codes, decimal, Option, Result}
 use Rattle.std.specs.List.{flat_map}
 use Rattle.std.specs.Option.{unwrap_or}
 use Rattle.std.specs.Str.{bytes_eq}
 use Rattle.market.specs.declared.report.Report.{Report}
-use Rattle.market.specs.declared.report.Report.TheVariants.{Filled, Cancelled, Added, Waiting, Resting, Repriced}
 use Rattle.market.specs.declared.side.Side.{Side}
 use Rattle.market.specs.declared.side.Side.TheVariants.{Buy, Sell}
-use Rattle.market.specs.Refusals.{number_of}
-use Rattle.transcript.specs.declared.answer.Answer.{Answer}
-use Rattle.transcript.specs.declared.answer.Answer.TheVariants.{Refused, Reported}
-use Rattle.transcript.specs.declared.answer.TopLine.{TopLine}
-use Rattle.transcript.specs.declared.answer.Closing.{Closing}
-use Rattle.transcript.specs.declared.answer.Closing.TheVariants.{Early, Tops}
-
--- one field, a comma, and the fields behind it
-infixr 60 ◌⸴◌
-abbrev pub ◌⸴◌ : List ℕ → List ℕ → List ℕ
-a ⸴ b = a ++ (codes "," ++ b)
-
--- the last field, and the end of the line
-abbrev pub ended : ℕ → List ℕ
-ended n = decimal n ++ codes "\n"
+use Rattle.market.specs.Reports.{◌⸴◌, report_text}
+use Rattle.texts.specs.declared.refusal.TextRefusal.{TextRefusal}
+use Rattle.texts.specs.Faults.{refusal_text}
+use Rattle.transcript.specs.declared.printing.Top.{Top}
 
 abbrev pub report_line : Report → List ℕ
-report_line (Filled number resting price shares) = codes "F" ⸴ decimal number ⸴ decimal resting ⸴ decimal price ⸴ ended shares
-report_line (Cancelled number shares) = codes "C" ⸴ decimal number ⸴ codes "0" ⸴ codes "0" ⸴ ended shares
-report_line (Added number shares) = codes "A" ⸴ decimal number ⸴ codes "0" ⸴ codes "0" ⸴ ended shares
-report_line (Waiting number away shares) = codes "W" ⸴ decimal number ⸴ codes "0" ⸴ decimal away ⸴ ended shares
-report_line (Resting number display working shares) = codes "R" ⸴ decimal number ⸴ decimal (unwrap_or display 0) ⸴ decimal working ⸴ ended shares
-report_line (Repriced number display working shares) = codes "P" ⸴ decimal number ⸴ decimal (unwrap_or display 0) ⸴ decimal working ⸴ ended shares
+report_line r = report_text r ++ codes "\n"
+
+abbrev pub refusal_line : TextRefusal → List ℕ
+refusal_line e = refusal_text e ++ codes "\n"
+
+-- what a session answers to a line of its script: its reports, or why it is refused
+abbrev pub Answer : Type 0
+Answer = Result (List Report) TextRefusal
 
 -- a refusal has one line, and reports have one each
 abbrev pub answer_lines : Answer → List ℕ
-answer_lines (Refused refusal line column) = codes "E" ⸴ decimal (number_of refusal) ⸴ decimal line ⸴ decimal column ⸴ codes "0\n"
-answer_lines (Reported reports) = flat_map report_line (vec_items reports)
+answer_lines (Err refused) = refusal_line refused
+answer_lines (Ok reports) = flat_map report_line reports
 
 abbrev pub side_number : Side → ℕ
 side_number Buy = 1
 side_number Sell = 2
 
 -- the best display price of a side and the shares at it, or zeros
-abbrev pub top_line : TopLine → List ℕ
-top_line t = codes "T" ⸴ decimal (side_number t.side) ⸴ codes "0" ⸴ decimal (unwrap_or t.top (0, 0)).0 ⸴ ended (unwrap_or t.top (0, 0)).1
+abbrev pub top_text : Top → List ℕ
+top_text t = codes "T" ⸴ decimal (side_number t.side) ⸴ codes "0" ⸴ decimal (unwrap_or t.best (0, 0)).0 ⸴ decimal (unwrap_or t.best (0, 0)).1
 
-abbrev pub closing_lines : Closing → List ℕ
-closing_lines Early = []
-closing_lines (Tops buy sell) = top_line buy ++ top_line sell
+abbrev pub top_lines : Top → Top → List ℕ
+top_lines buy sell = (top_text buy ++ codes "\n") ++ (top_text sell ++ codes "\n")
+
+-- the tops of both sides, or nothing where the session ended early
+abbrev pub closing_lines : Option (Top × Top) → List ℕ
+closing_lines None = []
+closing_lines (Some tops) = top_lines tops.0 tops.1
 
 abbrev pub header : List ℕ
 header = codes "report,number,other,price,shares\n"
@@ -54,5 +48,40 @@ header = codes "report,number,other,price,shares\n"
 abbrev pub begins_with_header : List ℕ → Bool
 begins_with_header bytes = bytes_eq header (take (length header) bytes)
 
-abbrev pub transcript_text : List Answer → Closing → List ℕ
-transcript_text answers closing = header ++ (flat_map answer_lines answers ++ closing_lines closing)
+-- the reports that a count says of a table, or the refusal
+abbrev pub answered : List Report → Result ℕ TextRefusal → Answer
+answered table (Ok count) = Ok (take count table)
+answered table (Err refused) = Err refused
+
+-- answers were printed, one after the other: to each line of all but those that are left
+pub record AddsAnswers (all left : ℕ) (before after : List ℕ) : Type 0 where
+  pub answers : List Answer
+  pub each : length answers + left ≡ all
+  pub is : after ≡ before ++ flat_map answer_lines answers
+
+-- answers one after the other, and then the tops of both sides or nothing
+abbrev pub rest_text : List Answer → Option (Top × Top) → List ℕ
+rest_text answers closing = flat_map answer_lines answers ++ closing_lines closing
+
+-- a session whose texts are refused answers that and no more; any other answers each line of its script, and closes with
+-- the tops
+abbrev pub Answers : Result (Unit {0}) TextRefusal → ℕ → List Answer → Option (Top × Top) → Type 0
+Answers (Err refused) calls answers closing = (answers ≡ Err refused ∷ []) × (closing ≡ None)
+Answers (Ok x) calls answers closing = (length answers ≡ calls) × (is_some closing ≡ true)
+
+-- the rest of a transcript was printed
+pub record Completes (checked : Result (Unit {0}) TextRefusal) (calls : ℕ) (before after : List ℕ) : Type 0 where
+  pub answers : List Answer
+  pub closing : Option (Top × Top)
+  pub given : Answers checked calls answers closing
+  pub is : after ≡ before ++ rest_text answers closing
+
+-- all that a session prints
+abbrev pub transcript_text : List Answer → Option (Top × Top) → List ℕ
+transcript_text answers closing = header ++ rest_text answers closing
+
+pub record Transcript (checked : Result (Unit {0}) TextRefusal) (calls : ℕ) (bytes : List ℕ) : Type 0 where
+  pub answers : List Answer
+  pub closing : Option (Top × Top)
+  pub given : Answers checked calls answers closing
+  pub is : bytes ≡ transcript_text answers closing

@@ -1,11 +1,10 @@
 // The session as a function of the bytes of its two texts.
-ghost use Rattle.std.specs.Prelude.{◌≡◌, ◌+◌, ◌≤◌, true, length, is_ok, IfOk, string_bytes};
-ghost use Rattle.book.specs.Held.{Counted};
-ghost use Rattle.std.specs.Result.{result_map_both};
-ghost use Rattle.transcript.specs.Limits.{sized, quotes_checked, calls_lines};
-ghost use Rattle.transcript.specs.Format.{transcript_text, begins_with_header};
+ghost use Rattle.std.specs.Prelude.{◌≡◌, ◌++◌, ◌≤◌, true, length, IfOk, Ok, string_bytes};
+ghost use Rattle.texts.specs.Views.{calls_left};
+ghost use Rattle.transcript.specs.Limits.{sized, texts_checked, calls_in};
+ghost use Rattle.transcript.specs.Format.{answered, answer_lines, begins_with_header, AddsAnswers, Completes, Transcript};
 
-use crate::answer::{Answer, Closing, TopLine, Transcript};
+use crate::printing::{Top, begin, print_refusal, print_reports, print_tops};
 use book::book::Book;
 use market::refusal::Refusal;
 use market::report::Report;
@@ -14,9 +13,8 @@ use market::side::Side;
 use sources::source::QuoteSource;
 use sources::tape::Tape;
 use std::alloc::{AllocError, Global};
-use texts::lines::first_piece;
 use texts::refusal::TextRefusal;
-use texts::script::{ScriptCall, read_call, script_lines};
+use texts::script::{Script, ScriptCall, check_script};
 use texts::tape::check_tape;
 
 // The most bytes of a text.
@@ -49,33 +47,23 @@ const UNUSED_REPORT: Report = Report::Cancelled {
 
 // Refuses a text that is too long, ahead of its other checks.
 fn check_size(text: &[u8]) -> Result<(), TextRefusal>
-    ensures answer { result ≡ sized text.now }
-    ensures within { is_ok result ≡ true → length text.now ≤ 65536 }
+    ensures { result ≡ sized text.now }
 {
     if text.len() > MOST_BYTES {
-        return Err(TextRefusal {
-            refusal: Refusal::LineCount,
-            line: 0,
-            column: 0,
-        });
+        return Err(TextRefusal::LINE_COUNT);
     }
     Ok(())
 }
 
-fn check_quotes(text: &[u8]) -> Result<(), TextRefusal>
-    ensures { result ≡ quotes_checked text.now }
+// Refuses the two texts of a session; the quotes go before the script. They stay two parameters: a struct of them would
+// have no other use.
+fn check_texts(quotes: &[u8], script: &[u8]) -> Result<(), TextRefusal>
+    ensures { result ≡ texts_checked quotes.now script.now }
 {
-    check_size(text)?;
-    check_tape(text)
-}
-
-// The lines of the script behind its first.
-fn calls_of(text: &[u8]) -> Result<&[u8], TextRefusal>
-    ensures lines { result_map_both (λ x. x.now) (λ e. e) result ≡ calls_lines text.now }
-    ensures within { IfOk result (λ lines. length lines.now ≤ 65536) }
-{
-    check_size(text)?;
-    script_lines(text)
+    check_size(quotes)?;
+    check_tape(quotes)?;
+    check_size(script)?;
+    check_script(script)
 }
 
 fn perform<S: QuoteSource>(
@@ -84,7 +72,7 @@ fn perform<S: QuoteSource>(
     call: ScriptCall,
     reports: &mut [Report],
 ) -> Result<usize, Refusal>
-    ensures { Counted result (length reports.old) }
+    ensures { IfOk result (λ count. count ≤ length reports.old) }
 {
     match call {
         ScriptCall::Enter(entry) => book.enter(source, entry, reports),
@@ -98,112 +86,95 @@ fn perform<S: QuoteSource>(
     }
 }
 
-// Makes the call of a line, which has that number in the script.
+// Makes the call of a line, which has that number in the script. A refusal by the book has column 0.
 fn answer<S: QuoteSource>(
-    heap: Global,
     book: &mut Book,
     source: &mut S,
-    bytes: &[u8],
+    call: Result<ScriptCall, TextRefusal>,
     line: u32,
     reports: &mut [Report],
-) -> Result<Answer, AllocError> {
-    let call = match read_call(bytes) {
-        Ok(call) => call,
-        Err(fault) => {
-            return Ok(Answer::of_text(TextRefusal {
-                refusal: fault.refusal,
-                line,
-                column: fault.column,
-            }));
-        }
-    };
-    match perform(book, source, call, reports) {
-        Ok(count) => {
-            let written = reports[0..count].to_vec(heap)?;
-            Ok(Answer::Reported(written))
-        }
-        Err(refusal) => Ok(Answer::Refused {
-            refusal,
-            line,
-            column: 0,
-        }),
+) -> Result<usize, TextRefusal>
+    ensures { IfOk result (λ count. count ≤ length reports.old) }
+{
+    perform(book, source, call?, reports).map_err(|refusal| TextRefusal {
+        refusal,
+        line,
+        column: 0,
+    })
+}
+
+fn print_answer(
+    text: &mut String,
+    reports: &[Report],
+    answer: Result<usize, TextRefusal>,
+) -> Result<(), AllocError>
+    requires { IfOk answer (λ count. count ≤ length reports.now) }
+    ensures { IfOk result (λ _. string_bytes text.new ≡ string_bytes text.old ++ answer_lines (answered reports.now answer)) }
+{
+    match answer {
+        Ok(count) => print_reports(text, &reports[..count]),
+        Err(refused) => print_refusal(text, refused),
     }
 }
 
-// Makes the calls of the lines one after the other; the first is line 2 of the script.
-fn answer_all<S: QuoteSource>(
-    heap: Global,
+// Makes the calls of a script one after the other, and prints the answers.
+fn print_answers<S: QuoteSource>(
+    text: &mut String,
     book: &mut Book,
     source: &mut S,
-    lines: &[u8],
-    reports: &mut [Report],
-) -> Result<Vec<Answer>, AllocError>
-    requires { length lines.now ≤ 65536 }
-{
-    let mut answers = Vec::new(heap);
-    let mut rest = lines;
-    let mut line: u32 = 2;
-    while rest.len() > 0 {
-        let (bytes, after) = first_piece(rest, b'\n');
-        answers.push(answer(heap, book, source, bytes, line, reports)?)?;
-        rest = after;
-        line += 1;
-    }
-    Ok(answers)
-}
-
-fn text_of(heap: Global, answers: &[Answer], closing: Closing) -> Result<String, AllocError>
-    ensures { IfOk result (λ s. string_bytes s ≡ transcript_text answers.now closing) }
-{
-    let transcript = Transcript { answers, closing };
-    format!(in heap; "{transcript}")
-}
-
-// A session that a text ends before its first call.
-fn ended_early(heap: Global, refusal: TextRefusal) -> Result<String, AllocError>
-    ensures { IfOk result (λ s. begins_with_header (string_bytes s) ≡ true) }
-{
-    let answers = vec![in heap; Answer::of_text(refusal)]?;
-    text_of(heap, answers.as_slice(), Closing::Early)
-}
-
-fn run_calls<S: QuoteSource>(
-    heap: Global,
-    book: &mut Book,
-    source: &mut S,
-    lines: &[u8],
-) -> Result<String, AllocError>
-    requires { length lines.now ≤ 65536 }
-    ensures { IfOk result (λ s. begins_with_header (string_bytes s) ≡ true) }
+    mut script: Script<'_>,
+) -> Result<(), AllocError>
+    ensures { IfOk result (λ _. AddsAnswers (length (calls_left script.entry)) 0 (string_bytes text.old) (string_bytes text.new)) }
 {
     let mut reports = [UNUSED_REPORT; REPORT_ROWS];
-    let answers = answer_all(heap, book, source, lines, &mut reports)?;
-    let closing = Closing::Tops {
-        buy: TopLine {
-            side: Side::Buy,
-            top: book.top(Side::Buy),
-        },
-        sell: TopLine {
-            side: Side::Sell,
-            top: book.top(Side::Sell),
-        },
-    };
-    text_of(heap, answers.as_slice(), closing)
+    let mut line = script.number();
+    // no `for`: it would count beside the script what the script knows, the number of its next line
+    while let Some(call) = script.next() {
+        let answer = answer(book, source, call, line, &mut reports);
+        print_answer(text, &reports, answer)?;
+        line = script.number();
+    }
+    Ok(())
+}
+
+fn top_of(book: &Book, side: Side) -> Top
+    ensures { result.side ≡ side }
+{
+    Top {
+        side,
+        best: book.top(side),
+    }
+}
+
+// Prints the answers and the tops of a session whose texts are good.
+#[tactic(auto, using(crate::proofs::Adding::tops_complete))]
+fn print_calls(text: &mut String, quotes: &[u8], script: &[u8]) -> Result<(), AllocError>
+    ensures { IfOk result (λ _. Completes (Ok tt) (calls_in script.now) (string_bytes text.old) (string_bytes text.new)) }
+{
+    let mut rows = [UNUSED_ROW; ORDER_ROWS];
+    let mut book = Book::open(BOOK_NUMBER, &mut rows);
+    let mut tape = Tape::over(quotes);
+    print_answers(text, &mut book, &mut tape, Script::over(script))?;
+    print_tops(text, top_of(&book, Side::Buy), top_of(&book, Side::Sell))?;
+    Ok(())
+}
+
+// Prints all that comes behind the first line.
+fn print_rest(text: &mut String, quotes: &[u8], script: &[u8]) -> Result<(), AllocError>
+    ensures { IfOk result (λ _. Completes (texts_checked quotes.now script.now) (calls_in script.now) (string_bytes text.old) (string_bytes text.new)) }
+{
+    match check_texts(quotes, script) {
+        Ok(()) => print_calls(text, quotes, script),
+        Err(refused) => print_refusal(text, refused),
+    }
 }
 
 // All that a session prints, from the bytes of its quote file and of its script.
 pub fn session(heap: Global, quotes: &[u8], script: &[u8]) -> Result<String, AllocError>
-    ensures { IfOk result (λ s. begins_with_header (string_bytes s) ≡ true) }
+    ensures header { IfOk result (λ s. begins_with_header (string_bytes s) ≡ true) }
+    ensures transcript { IfOk result (λ s. Transcript (texts_checked quotes.now script.now) (calls_in script.now) (string_bytes s)) }
 {
-    if let Err(refusal) = check_quotes(quotes) {
-        return ended_early(heap, refusal);
-    }
-    let lines = match calls_of(script) {
-        Ok(lines) => lines,
-        Err(refusal) => return ended_early(heap, refusal),
-    };
-    let mut rows = [UNUSED_ROW; ORDER_ROWS];
-    let mut book = Book::open(BOOK_NUMBER, &mut rows);
-    let mut tape = Tape::over(quotes);
-    run_calls(heap, &mut book, &mut tape, lines)
+    let mut text = begin(heap)?;
+    print_rest(&mut text, quotes, script)?;
+    Ok(text)
 }

@@ -4,18 +4,14 @@ ghost use Rattle.texts.specs.Fields.{start, stepped, value_at, next_field, end_a
 
 use crate::field::Field;
 use crate::fields::Fields;
-use crate::lines::first_piece;
+use crate::pieces::Pieces;
 use crate::refusal::Fault;
-use market::refusal::Refusal;
 
 // The value of a field that has the byte behind it, and begins at `column`.
 fn read_field<F: Field>(field: &[u8], column: usize) -> Result<F, Fault>
     ensures { result ≡ value_at F.Field.meaning column field.now }
 {
-    match F::read(&field[0..field.len().saturating_sub(1)]) {
-        Ok(value) => Ok(value),
-        Err(refusal) => Err(Fault { refusal, column }),
-    }
+    F::read(&field[..field.len().saturating_sub(1)]).map_err(|refusal| Fault { refusal, column })
 }
 
 // Refuses a line that lacks its LF.
@@ -24,10 +20,7 @@ pub fn check_ended(line: &[u8]) -> Result<(), Fault>
 {
     match line {
         [.., b'\n'] => Ok(()),
-        _ => Err(Fault {
-            refusal: Refusal::BadField,
-            column: line.len(),
-        }),
+        _ => Err(Fault::bad_field(line.len())),
     }
 }
 
@@ -37,7 +30,7 @@ impl<'a> Fields<'a> {
         ensures { cursor result ≡ start line.now }
     {
         Fields {
-            rest: line,
+            left: Pieces::of(line, b','),
             column: 1,
             last: line.len(),
         }
@@ -48,15 +41,8 @@ impl<'a> Fields<'a> {
         ensures value { result ≡ next_field F.Field.meaning (cursor self.old) }
         ensures after { cursor self.new ≡ stepped (cursor self.old) }
     {
-        if self.rest.len() == 0 {
-            return Err(Fault {
-                refusal: Refusal::BadField,
-                column: self.last,
-            });
-        }
+        let field = self.left.next().ok_or(Fault::bad_field(self.last))?;
         let column = self.column;
-        let (field, after) = first_piece(self.rest, b',');
-        self.rest = after;
         self.column += field.len();
         read_field(field, column)
     }
@@ -65,11 +51,9 @@ impl<'a> Fields<'a> {
     pub fn end(&self) -> Result<(), Fault>
         ensures { result ≡ end_at (cursor self.now) }
     {
-        if self.rest.len() > 0 {
-            return Err(Fault {
-                refusal: Refusal::BadField,
-                column: self.column,
-            });
+        let mut left = self.left;
+        if left.next().is_some() {
+            return Err(Fault::bad_field(self.column));
         }
         Ok(())
     }

@@ -1,26 +1,26 @@
 // A script read line by line.
-ghost use Rattle.std.specs.Prelude.{◌≡◌, ◌+◌, [], length, take, drop};
+ghost use Rattle.std.specs.Prelude.{◌≡◌, []};
+ghost use Rattle.std.specs.Iterator.{item_count};
 ghost use Rattle.std.specs.Result.{result_unwrap_or};
 ghost use Rattle.texts.specs.Scripts.{script};
-ghost use Rattle.texts.specs.Texts.{checked, first_of};
-ghost use Rattle.texts.specs.Views.{calls_left, next_number};
+ghost use Rattle.texts.specs.Texts.{checked};
+ghost use Rattle.texts.specs.Views.{calls_left, next_number, GivesCall};
 
-use crate::lines::MOST_LINES;
-use crate::reader::{Lines, check_frame, lines_of};
+use crate::lines::Lines;
 use crate::refusal::TextRefusal;
-use crate::script::{HEADER, ScriptCall};
+use crate::script::{SCRIPT, ScriptCall};
 
 // A reader of a script's lines.
 #[derive(Drop)]
 pub struct Script<'a> {
-    lines: Lines<'a>,
+    lines: Lines<'a, ScriptCall>,
 }
 
 // Refuses a text that is no script. Its lines are not looked at: each is good or bad by itself.
 pub fn check_script(text: &[u8]) -> Result<(), TextRefusal>
     ensures { result ≡ checked (script text.now) }
 {
-    check_frame::<ScriptCall>(text, HEADER, 0, MOST_LINES)
+    SCRIPT.value_lines(text).map(|_| ())
 }
 
 impl<'a> Script<'a> {
@@ -30,7 +30,7 @@ impl<'a> Script<'a> {
         ensures number { next_number result ≡ 2 }
     {
         Script {
-            lines: lines_of::<ScriptCall>(text, HEADER, 0, MOST_LINES),
+            lines: SCRIPT.lines_or_none(text),
         }
     }
 
@@ -40,13 +40,17 @@ impl<'a> Script<'a> {
     {
         self.lines.number()
     }
+}
+
+impl Iterator for Script<'_> {
+    type Item = Result<ScriptCall, TextRefusal>;
+
+    ghost next_gives = { GivesCall };
+
+    ghost remaining = { item_count calls_left };
 
     // The call of the next line, or where the line is refused.
-    pub fn next(&mut self) -> Option<Result<ScriptCall, TextRefusal>>
-        ensures value { result ≡ first_of (calls_left self.old) }
-        ensures after { calls_left self.new ≡ drop 1 (calls_left self.old) }
-        ensures number { next_number self.new ≡ next_number self.old + length (take 1 (calls_left self.old)) }
-    {
+    fn next(&mut self) -> Option<Result<ScriptCall, TextRefusal>> {
         self.lines.next()
     }
 }

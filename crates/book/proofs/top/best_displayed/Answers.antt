@@ -1,6 +1,6 @@
 use Rattle.std.proofs.Common.{arith}
 use Rattle.book.specs.Held.{shares_at}
-use Rattle.book.proofs.Standing.{sum_fits, sum_more}
+use Rattle.book.proofs.Totals.{sum_fits, sum_more}
 use Rattle.book.proofs.top.best_displayed.Goals as goal
 use Rattle.book.proofs.top.best_displayed.Goals.{in-Some, in_default}
 

@@ -1,12 +1,9 @@
-use Rattle.std.proofs.Common.{arith}
+use Rattle.std.proofs.Common.{◌∙◌}
 use Rattle.matching.proofs.Ranks.{first_none, first_some}
 use Rattle.matching.proofs.trade.first_on.Goals as goal
 
-pub bounds-line-place : goal.bounds-line-place
-bounds-line-place c = omega (arith, c.in-Some.ensures.0.within)
+pub returns-in_err-place : goal.returns-in_err-place
+returns-in_err-place c = c.from_residual.ensures ∙ first_none c.args.side c.args.line.now c.in_err-place.ensures
 
-pub returns-in-None : goal.returns-in-None
-returns-in-None c = first_none c.args.side c.args.line.now c.in-None.ensures
-
-pub returns-in-Some : goal.returns-in-Some
-returns-in-Some c = first_some c.args.side c.args.line.now c.in-Some.place c.in-Some.ensures _
+pub returns : goal.returns
+returns c = first_some c.args.side c.args.line.now c.in_ok-place.place c.in_ok-place.ensures _
