@@ -43,7 +43,7 @@ fn check_cancellation(row: &OrderRow) -> Result<(), Refusal> {
 }
 
 impl<'a> Book<'a> {
-    ghost use Rattle.book.specs.Held.{held, size, Counted, MakesIfOk, report_check, shares_at};
+    ghost use Rattle.book.specs.Held.{held, size, Counted, MakesIfOk, StaysIfRefused, highest_after, quotes_after, report_check, shares_at};
 
     // A new book over the table, of which it uses at most the first 1,024 rows.
     pub fn open(number: u32, rows: &'a mut [OrderRow]) -> Book<'a>
@@ -100,9 +100,11 @@ impl<'a> Book<'a> {
         reports: &mut [Report],
     ) -> Result<usize, Refusal>
         ensures number { self.new.number ≡ self.old.number }
+        ensures highest { self.new.highest ≡ highest_after result entry.number self.old.highest }
         ensures size { size self.new ≡ size self.old }
         ensures within { Counted result (length reports.old) }
         ensures made { MakesIfOk (arrival (in_force (S.quotes source.now)) entry (held self.old)) self.old reports.old self.new reports.new result }
+        ensures refused { StaysIfRefused self.old reports.old self.new reports.new result }
     {
         self.check_reports(reports)?;
         let mut reports = Reports::over(reports);
@@ -126,6 +128,7 @@ impl<'a> Book<'a> {
         ensures size { size self.new ≡ size self.old }
         ensures within { Counted result (length reports.old) }
         ensures made { MakesIfOk (amendment (in_force (S.quotes source.now)) number price shares (held self.old)) self.old reports.old self.new reports.new result }
+        ensures refused { StaysIfRefused self.old reports.old self.new reports.new result }
     {
         self.check_reports(reports)?;
         let mut reports = Reports::over(reports);
@@ -142,6 +145,7 @@ impl<'a> Book<'a> {
         ensures size { size self.new ≡ size self.old }
         ensures within { Counted result (length reports.old) }
         ensures made { MakesIfOk (cancellation number (held self.old)) self.old reports.old self.new reports.new result }
+        ensures refused { StaysIfRefused self.old reports.old self.new reports.new result }
     {
         self.check_reports(reports)?;
         let mut reports = Reports::over(reports);
@@ -165,8 +169,10 @@ impl<'a> Book<'a> {
         ensures number { self.new.number ≡ self.old.number }
         ensures highest { self.new.highest ≡ self.old.highest }
         ensures size { size self.new ≡ size self.old }
+        ensures source { S.quotes source.new ≡ quotes_after result (S.quotes source.old) }
         ensures within { Counted result (length reports.old) }
         ensures made { MakesIfOk (reprices (in_force (S.quotes source.new)) (held self.old)) self.old reports.old self.new reports.new result }
+        ensures refused { StaysIfRefused self.old reports.old self.new reports.new result }
     {
         self.check_reports(reports)?;
         let mut reports = Reports::over(reports);
