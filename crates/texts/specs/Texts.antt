@@ -114,10 +114,6 @@ abbrev pub first_of : {X : Type 0} → List X → Option X
 first_of [] = None
 first_of (x ∷ xs) = Some x
 
--- the next row, if a line is left
-abbrev pub next_row : {X : Type 0} → (List ℕ → Result X Fault) → Place → Option (Result X TextRefusal)
-next_row f at = first_of (rows_at f at)
-
 abbrev pub after_first : ℕ → List (List ℕ) → Place
 after_first n [] = record { number = n; left = [] }
 after_first n (l ∷ ls) = record { number = n + 1; left = ls }
