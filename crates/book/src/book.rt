@@ -131,11 +131,11 @@ impl<'a> Book<'a> {
         ensures refused { StaysIfRefused self.old reports.old self.new reports.new result }
     {
         self.check_reports(reports)?;
-        let mut reports = Reports::over(reports);
         let found = self.line.find(number).ok_or(Refusal::NoSuchOrder)?;
         let amendment = Amendment::of(&found.row, price, shares)?;
-        amendment.apply(&mut self.line, found, quote_of(source), &mut reports);
-        Ok(reports.count())
+        let mut changes = Reports::over(reports);
+        amendment.apply(&mut self.line, found, quote_of(source), &mut changes);
+        Ok(changes.count())
     }
 
     // Takes a resting or waiting order out of the line.
@@ -148,16 +148,16 @@ impl<'a> Book<'a> {
         ensures refused { StaysIfRefused self.old reports.old self.new reports.new result }
     {
         self.check_reports(reports)?;
-        let mut reports = Reports::over(reports);
         let found = self.line.find(number).ok_or(Refusal::NoSuchOrder)?;
         let row = found.row;
         check_cancellation(&row)?;
         self.line.remove(found.place);
-        reports.write(Report::Cancelled {
+        let mut cancelled = Reports::over(reports);
+        cancelled.write(Report::Cancelled {
             number: row.number,
             shares: row.shares,
         });
-        Ok(reports.count())
+        Ok(cancelled.count())
     }
 
     // Moves the source to its next quote, and reprices the orders that follow the quotes.

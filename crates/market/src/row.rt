@@ -1,6 +1,6 @@
 // An order as it stands in a table, and an order in hand.
 ghost use Rattle.std.specs.Prelude.{◌≡◌};
-ghost use Rattle.market.specs.Rows.{is_resting, rests_on, category_of, entry_of, row_of};
+ghost use Rattle.market.specs.Rows.{is_resting, rests_on, category_of, priority, entry_of, row_of};
 
 use crate::side::Side;
 
@@ -54,6 +54,14 @@ pub struct Entry {
     pub kind: Kind,
     pub limit: u32,
     pub shares: u32,
+}
+
+impl Category {
+    pub fn number(self) -> u8
+        ensures { result ≡ priority self }
+    {
+        self as u8
+    }
 }
 
 impl State {

@@ -49,12 +49,12 @@ to_end_leaves (suc i) (suc n) (x ∷ xs) h e = ap (λ z. x ∷ z) (to_end_leaves
 pub appended : (rows rows' : Line) (len : ℕ) (r : OrderRow) → len < length rows → rows' ≡ replace_at len (r ∷ []) rows → take (len + 1) rows' ≡ take len rows ++ r ∷ []
 appended rows rows' len r h e = ap (take (len + 1)) (e ∙ sym (set_replaces len r rows)) ∙ take_more_set rows len r h
 
--- and one row shorter where a row moved to its end
-pub removed : (rows part : Line) (len i : ℕ) → i < len → len ≤ length rows → length part ≡ length (take len rows) → part ≡ to_end i (take len rows) → take (len - 1) (part ++ drop len rows) ≡ replace_at i [] (take len rows)
-removed rows part len i h fits size e =
+-- and one row shorter where a row was taken out
+pub removed : (rows part : Line) (len i : ℕ) → len ≤ length rows → length part ≡ length (take len rows) → take (length (take len rows) - 1) part ≡ replace_at i [] (take len rows) → take (len - 1) (part ++ drop len rows) ≡ replace_at i [] (take len rows)
+removed rows part len i fits size e =
     let less : len - 1 ≤ len = omega arith in
-    let all = length-take len rows in
-    sym (take-take (len - 1) len _ less) ∙ ap (take (len - 1)) (part_is rows part len fits size ∙ e) ∙ to_end_leaves i (len - 1) (take len rows) (omega arith) (omega arith)
+    let all : length (take len rows) - 1 ≡ len - 1 = omega (arith, length-take len rows) in
+    sym (take-take (len - 1) len _ less) ∙ ap (take (len - 1)) (part_is rows part len fits size) ∙ ap (λ n. take n part) (sym all) ∙ e
 
 -- THE REPORT TABLE
 

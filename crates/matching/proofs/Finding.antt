@@ -28,7 +28,7 @@ place_is : (number : ℕ) (line : Line) → position (has number) line ≡ optio
 place_is number line = position_from-zero (has number) line ∙ place_from number 0 line
 
 -- the row that is found stands at its place
-find_at : (number : ℕ) (line : Line) (p : Placed) → find number line ≡ Some p → slice_get line p.place ≡ Some p.row
+pub find_at : (number : ℕ) (line : Line) (p : Placed) → find number line ≡ Some p → slice_get line p.place ≡ Some p.row
 find_at number [] p e = cc
 find_at number (x ∷ xs) p e = go (eqb x.number number) (find number xs) (find_at number xs) e
   where

@@ -12,7 +12,7 @@ use Rattle.rules.specs.Lines.{fills, after, replay, fill_report, all_reports, al
 use Rattle.rules.specs.Trading.{next_fill, fills_of, total, fewer, fill_events}
 use Rattle.rules.proofs.Rank.{first_top}
 use Rattle.rules.proofs.Trade.{Met, Next, placed, stops, goes, upto, trades, one_way}
-use Rattle.rules.proofs.Formed.{met_formed}
+use Rattle.rules.proofs.Formed.{met_formed, fill_formed}
 use Rattle.matching.specs.declared.line.Line.{Line}
 use Rattle.matching.specs.declared.reports.Reports.{Reports}
 use Rattle.matching.specs.Held.{held, Becomes}
@@ -64,6 +64,7 @@ pub record Known (e : Entry) (line : lines.Line) (f : Fill) : Type 0 where
   pub within : f.place < length line
   pub some : 0 < e.shares
   pub resting_formed : all_formed line ≡ true → formed f.resting ≡ true
+  pub stays_formed : all_formed line ≡ true → all_formed (after (fills f) line) ≡ true
   pub empties : f.shares < f.resting.shares → e.shares - f.shares ≡ 0
 
 pub known : (e : Entry) (b : ℕ) (line : lines.Line) (f : Fill) → Some f ≡ next_fill e b line → Known e line f
@@ -71,7 +72,7 @@ known e b line f is =
     let m : Met e b line f = subst (Next e b line) (sym is) (upto e b line) in
     let size = m.size in
     let there = (first_top (opposite e.side) line (placed f) m.is).there in
-    record { within = grind (arith, slice_get_past line f.place, cases_lt f.place (length line), there); some = m.some; resting_formed = met_formed m; empties = λ h. omega arith }
+    record { within = grind (arith, slice_get_past line f.place, cases_lt f.place (length line), there); some = m.some; resting_formed = met_formed m; stays_formed = fill_formed m; empties = λ h. omega arith }
 
 -- the line is shorter after a fill, or nothing is left in hand
 module _ {e : Entry} {line : lines.Line} {f : Fill} (k : Known e line f) (len len' : ℕ) (is : len' ≡ cond (leb f.resting.shares f.shares) (len - 1) len) (h : length line ≤ len) where

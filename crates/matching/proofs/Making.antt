@@ -12,10 +12,10 @@ use Rattle.matching.specs.Changes.{Makes}
 use Rattle.matching.specs.Tables.{written, Made}
 use Rattle.matching.proofs.Edits.{written_none, written_twice}
 
-made_none : (line : lines.Line) (table : List Report) (next : ℕ) → Made [] line table next line table next
+pub made_none : (line : lines.Line) (table : List Report) (next : ℕ) → Made [] line table next line table next
 made_none line table next = record { line_is = λ i. line; table_is = sym (written_none table next); next_is = omega arith }
 
-made_then : {es fs : List Event} {line line₁ line₂ : lines.Line} {table table₁ table₂ : List Report} {next next₁ next₂ : ℕ}
+pub made_then : {es fs : List Event} {line line₁ line₂ : lines.Line} {table table₁ table₂ : List Report} {next next₁ next₂ : ℕ}
     → Made es line table next line₁ table₁ next₁ → Made fs line₁ table₁ next₁ line₂ table₂ next₂ → next₁ ≤ length table → Made (es ++ fs) line table next line₂ table₂ next₂
 made_then {es} {fs} {line} {table} {next} {next₁} m n room = record {
   line_is = n.line_is ∙ ap (replay fs) m.line_is ∙ sym (replay-++ es fs line);

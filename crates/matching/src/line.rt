@@ -12,8 +12,8 @@ use market::row::OrderRow;
 pub struct Line<'a> {
     rows: &'a mut [OrderRow],
     len: usize,
-    ghost within: { len ≤ length rows.now },
-    ghost formed: { all_formed (take len rows.now) ≡ true },
+    pub ghost within: { len ≤ length rows.now },
+    pub ghost formed: { all_formed (take len rows.now) ≡ true },
 }
 
 impl<'a> Line<'a> {
@@ -69,7 +69,7 @@ impl<'a> Line<'a> {
         ensures line { Becomes self.old (held self.old ++ order ∷ []) self.new }
         ensures len { self.new.len ≡ self.old.len + 1 }
     {
-        table::write(self.rows, self.len, order);
+        table::append(self.rows, self.len, order);
         self.len += 1;
     }
 
@@ -79,7 +79,7 @@ impl<'a> Line<'a> {
         ensures line { Becomes self.old (replace_at i [] (held self.old)) self.new }
         ensures len { self.new.len + 1 ≡ self.old.len }
     {
-        table::move_to_end(&mut self.rows[..self.len], i);
+        table::remove(&mut self.rows[..self.len], i);
         self.len -= 1;
     }
 
@@ -89,7 +89,6 @@ impl<'a> Line<'a> {
         ensures line { Becomes self.old (replace_at i [] (held self.old) ++ order ∷ []) self.new }
         ensures len { self.new.len ≡ self.old.len }
     {
-        self.remove(i);
-        self.append(order);
+        table::write_last(&mut self.rows[..self.len], i, order);
     }
 }

@@ -9,7 +9,7 @@ use market::report::Report;
 pub struct Reports<'a> {
     table: &'a mut [Report],
     next: usize,
-    ghost within: { next ≤ length table.now },
+    pub ghost within: { next ≤ length table.now },
 }
 
 impl<'a> Reports<'a> {

@@ -1,5 +1,5 @@
 // The orders that follow the quotes take new prices, in two passes.
-ghost use Rattle.std.specs.Prelude.{◌≡◌, ◌+◌, ◌*◌, ◌<◌, ◌≤◌, true, length, IfSome};
+ghost use Rattle.std.specs.Prelude.{◌≡◌, ◌+◌, ◌*◌, ◌<◌, ◌≤◌, true, [], length, IfSome};
 ghost use Rattle.market.specs.Rows.{formed};
 ghost use Rattle.rules.specs.declared.repricing.Pass.TheVariants.{First, Second};
 ghost use Rattle.rules.specs.declared.trading.Placed.{Placed};
@@ -69,19 +69,19 @@ fn repriced_order(quote: FormedQuote, row: OrderRow) -> Order
 }
 
 impl Line<'_> {
-    // The numbers of the orders that have their turn in the pass, in line order.
-    fn numbers(&self, quote: FormedQuote, pass: Pass) -> ArrayVec<u32, MOST_ROWS>
-        requires { self.now.len ≤ 1024 }
-        ensures { result.items ≡ numbersOf quote pass (held self.now) }
+    // Gathers the numbers of the orders that have their turn in the pass, in line order. They are no result: an array
+    // of this size would be copied.
+    fn gather(&self, quote: FormedQuote, pass: Pass, numbers: &mut ArrayVec<u32, MOST_ROWS>)
+        requires few { self.now.len ≤ 1024 }
+        requires empty { numbers.old.items ≡ [] }
+        ensures { numbers.new.items ≡ numbersOf quote pass (held self.now) }
     {
-        let mut numbers = ArrayVec::new();
         // No `extend`: it answers a `Result`, and there is always room.
         for row in self.orders() {
             if is_in_pass(quote, pass, row) {
                 numbers.push(row.number);
             }
         }
-        numbers
     }
 
     // The row of the number, if it still stands in line and follows the quotes.
@@ -179,8 +179,10 @@ impl Line<'_> {
         ensures made { Makes (reprices quote (held self.old)) self.old reports.old self.new reports.new }
         ensures len { self.new.len ≤ self.old.len }
     {
-        let first = self.numbers(quote, Pass::First);
-        let second = self.numbers(quote, Pass::Second);
+        let mut first = ArrayVec::new();
+        let mut second = ArrayVec::new();
+        self.gather(quote, Pass::First, &mut first);
+        self.gather(quote, Pass::Second, &mut second);
         self.reprice_all(Pass::First, &first, quote, reports);
         self.reprice_all(Pass::Second, &second, quote, reports);
     }

@@ -4,7 +4,7 @@ ghost use Rattle.market.specs.Rows.{rests_on, outranks};
 ghost use Rattle.market.proofs.Outranking.{outranks_irrefl, outranks_trans, behind_trans};
 
 use crate::ranked::Ranked;
-use market::row::OrderRow;
+use market::row::{Category, OrderRow};
 use market::side::Side;
 
 impl Ranked for OrderRow {
@@ -27,7 +27,8 @@ impl Ranked for OrderRow {
 
     fn outranks(&self, other: &OrderRow, side: Side) -> bool {
         if self.working == other.working {
-            self.category() < other.category()
+            // no `<` of categories: it asks for both before it looks at either, and a search asks this of each row
+            self.category() == Category::Display && other.category() == Category::NonDisplay
         } else {
             side.is_better(self.working, other.working)
         }

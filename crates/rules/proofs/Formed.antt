@@ -17,9 +17,9 @@ use Rattle.market.specs.declared.quote.Quote.{Quote}
 use Rattle.market.specs.Sides.{opposite, inside}
 use Rattle.market.specs.Prices.{step_back}
 use Rattle.market.specs.Quotes.{away}
-use Rattle.market.specs.Rows.{row_of, is_resting, countable, displays_behind, well_priced, formed}
+use Rattle.market.specs.Rows.{row_of, with_shares, is_resting, countable, displays_behind, well_priced, formed}
 use Rattle.rules.specs.declared.trading.Fill.{Fill}
-use Rattle.rules.specs.Lines.{Line, less_shares, unfilled, replace_at, all_formed}
+use Rattle.rules.specs.Lines.{Line, fills, less_shares, unfilled, after, replace_at, to_end, all_formed}
 use Rattle.rules.specs.Arrival.{limit_or_collar, held_to, bound, reached, reached_by, remainder_of, remainder, remainder_rows}
 use Rattle.rules.specs.Repricing.{at_prices, at_limit, at_away, slid, off_limit, is_at_limit, repriced_as, repriced, follows}
 use Rattle.rules.proofs.Rank.{first_top}
@@ -40,8 +40,16 @@ replace_formed i new [] h k = refl
 replace_formed zero new (x ∷ xs) h k = append_formed new xs k (second_so _ _ h)
 replace_formed (suc i) new (x ∷ xs) h k = both_true (first_so _ _ h) (replace_formed i new xs (second_so _ _ h) k)
 
+pub to_end_formed : (i : ℕ) (line : Line) → all_formed line ≡ true → all_formed (to_end i line) ≡ true
+to_end_formed i [] h = refl
+to_end_formed zero (x ∷ xs) h = append_formed xs (x ∷ []) (second_so _ _ h) (both_true (first_so _ _ h) refl)
+to_end_formed (suc i) (x ∷ xs) h = both_true (first_so _ _ h) (to_end_formed i xs (second_so _ _ h))
+
 pub one_formed : (r : OrderRow) → formed r ≡ true → all_formed (r ∷ []) ≡ true
 one_formed r h = both_true h refl
+
+pub shares_formed : (r : OrderRow) (n : ℕ) → formed r ≡ true → countable n ≡ true → formed (with_shares n r) ≡ true
+shares_formed r n f c = both_true c (second_so (countable r.shares) _ f)
 
 -- FILLS
 
@@ -60,6 +68,9 @@ unfilled_formed r k e = go (leb r.shares k) refl
 
 pub met_formed : {e : Entry} {b : ℕ} {line : Line} {f : Fill} → Met e b line f → all_formed line ≡ true → formed f.resting ≡ true
 met_formed {e} {b} {line} {f} m h = nth_formed line f.place f.resting h (first_top (opposite e.side) line (placed f) m.is).there
+
+pub fill_formed : {e : Entry} {b : ℕ} {line : Line} {f : Fill} → Met e b line f → all_formed line ≡ true → all_formed (after (fills f) line) ≡ true
+fill_formed {line} {f} m h = replace_formed f.place (unfilled f.resting f.shares) line h (unfilled_formed f.resting f.shares (met_formed m h))
 
 -- REMAINDERS
 

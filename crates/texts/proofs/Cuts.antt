@@ -1,5 +1,6 @@
 -- The first piece and the rest.
 use Rattle.std.proofs.Common.{◌≡◌, ℕ, suc, ◌+◌, ◌<◌, ◌≤◌, Bool, true, false, cond, eqb, List, [], ◌∷◌, length, take, drop, refl, ap, ◌∙◌, add-one, arith, length-append, length-take-le}
+use Rattle.std.proofs.lemmas.List.{nil_from_length}
 use Rattle.std.specs.Prelude.{not, min}
 use Rattle.std.specs.List.{concat, position_or_len}
 use Rattle.texts.specs.declared.pieces.Pieces.{Pieces}
@@ -27,6 +28,9 @@ first_len_is end (b ∷ bs) = one_more (eqb b end) _ _ _ (first_len_is end bs)
 -- xs is split behind its first piece
 pub cut_at : (end : ℕ) (xs front back : List ℕ) → 0 < length xs → front ≡ take (first_len end xs) xs → back ≡ drop (first_len end xs) xs → pieces end xs ≡ front ∷ pieces end back
 cut_at end xs front back some f b = rw (f, b) (pieces_first end xs some)
+
+pub pieces_none : (end : ℕ) (xs : List ℕ) → length xs ≡ 0 → pieces end xs ≡ []
+pieces_none end xs none = rw (nil_from_length xs none)
 
 joined_onto : (b : ℕ) (ps : List (List ℕ)) → concat (onto b ps) ≡ b ∷ concat ps
 joined_onto b [] = refl

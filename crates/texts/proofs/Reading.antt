@@ -1,6 +1,6 @@
 -- From one line of a text to the next.
 use Rattle.std.proofs.Common.{◌≡◌, ℕ, ◌+◌, ◌≤◌, List, [], ◌∷◌, length, drop, Ok, Err, Result, refl, ap, ◌∙◌, arith, length-drop}
-use Rattle.std.specs.Result.{result_unwrap_or}
+use Rattle.std.specs.Result.{result_map_both, result_unwrap_or}
 use Rattle.std.proofs.lemmas.List.{drop-drop}
 use Rattle.texts.specs.declared.lines.Lines.{Lines}
 use Rattle.texts.proofs.Answered.{no_refusal}
@@ -8,7 +8,7 @@ use Rattle.texts.specs.Pieces.{pieces}
 use Rattle.texts.proofs.Cuts.{behind}
 use Rattle.texts.specs.declared.refusal.Fault.{Fault}
 use Rattle.texts.specs.declared.refusal.TextRefusal.{TextRefusal}
-use Rattle.texts.specs.Texts.{numbered, both, lines, rows, all_good, checked}
+use Rattle.texts.specs.Texts.{Place, numbered, both, lines, rows, all_good, checked, first_place}
 use Rattle.texts.specs.Fields.{and_then}
 
 module _ {L : Type 0} where
@@ -52,3 +52,8 @@ whole (Err e) u good = no_refusal good
 pub text_good : {X : Type 0} (f : List ℕ → Result X Fault) (v : Result (List ℕ) TextRefusal) (u : Unit {0}) → Ok u ≡ checked (and_then v (λ ls. lines f 2 (pieces 10 ls))) → all_good (result_unwrap_or (and_then v (λ ls. Ok (rows f 2 (pieces 10 ls)))) []) ≡ Ok (result_unwrap_or (and_then v (λ ls. lines f 2 (pieces 10 ls))) [])
 text_good f (Ok ls) u good = lines_rows f 2 (pieces 10 ls) ∙ whole (lines f 2 (pieces 10 ls)) u good
 text_good f (Err e) u good = no_refusal good
+
+-- the first line that is read has the number 2
+pub from_line_two : (at : Place) (rest : Result (List ℕ) TextRefusal) → Ok at ≡ result_map_both first_place (λ e. e) rest → at.number ≡ 2
+from_line_two at (Ok bytes) e = let first : at ≡ first_place bytes = cc in ap (λ (p : Place). p.number) first
+from_line_two at (Err refused) e = cc

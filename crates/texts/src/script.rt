@@ -102,29 +102,35 @@ fn read_advance(mut fields: Fields<'_>) -> Result<ScriptCall, Fault>
     Ok(ScriptCall::Advance)
 }
 
-impl Line for ScriptCall {
-    ghost meaning = { call_line };
-
-    fn read(line: &[u8]) -> Result<ScriptCall, Fault> {
-        check_ended(line)?;
-        let mut fields = Fields::of(line);
-        match fields.next()? {
-            CallWord::Enter => read_enter(fields),
-            CallWord::Amend => read_amend(fields),
-            CallWord::Cancel => read_cancel(fields),
-            CallWord::Advance => read_advance(fields),
-        }
+fn call_of(line: &[u8]) -> Result<ScriptCall, Fault>
+    ensures { result ≡ call_line line.now }
+{
+    check_ended(line)?;
+    let mut fields = Fields::of(line);
+    match fields.next()? {
+        CallWord::Enter => read_enter(fields),
+        CallWord::Amend => read_amend(fields),
+        CallWord::Cancel => read_cancel(fields),
+        CallWord::Advance => read_advance(fields),
     }
 }
 
 // The call of a line, which has its LF. Laws: a line is read just if it is its call written out, and a fault is at a
-// byte of its line. Not in `read`: tried, and each early exit owes the laws again.
+// byte of its line. Not in `call_of`: tried, and each early exit owes the laws again.
 pub fn read_call(line: &[u8]) -> Result<ScriptCall, Fault>
     ensures value { result ≡ call_line line.now }
     ensures law { Written one_line call_line call_text is_call }
     ensures place { 0 < length line.now → AtAByte (length line.now) result }
 {
-    ScriptCall::read(line)
+    call_of(line)
+}
+
+impl Line for ScriptCall {
+    ghost meaning = { call_line };
+
+    fn read(line: &[u8]) -> Result<ScriptCall, Fault> {
+        read_call(line)
+    }
 }
 
 // The value lines of a script. Each is good or bad by itself, as `read_call` says.

@@ -6,6 +6,7 @@ use Rattle.texts.specs.Fields.{and_then}
 use Rattle.texts.specs.declared.refusal.TextRefusal.{TextRefusal}
 use Rattle.texts.specs.Tapes.{tape}
 use Rattle.texts.specs.Texts.{refused, checked}
+use Rattle.texts.specs.declared.script.ScriptCall.{ScriptCall}
 use Rattle.texts.specs.Scripts.{script}
 
 -- at most 65,536 bytes
@@ -22,6 +23,6 @@ script_checked bs = and_then (sized bs) (λ _. checked (script bs))
 abbrev pub texts_checked : List ℕ → List ℕ → Result (Unit {0}) TextRefusal
 texts_checked quotes calls = and_then (quotes_checked quotes) (λ _. script_checked calls)
 
--- how many lines a script has behind its first; none if it is refused
-abbrev pub calls_in : List ℕ → ℕ
-calls_in bs = length (result_unwrap_or (script bs) [])
+-- the lines of a script behind its first; none if it is refused
+abbrev pub calls_in : List ℕ → List (Result ScriptCall TextRefusal)
+calls_in bs = result_unwrap_or (script bs) []

@@ -1,7 +1,11 @@
 // The session as a function of the bytes of its two texts.
 ghost use Rattle.std.specs.Prelude.{◌≡◌, ◌++◌, ◌≤◌, true, length, IfOk, Ok, string_bytes};
-ghost use Rattle.texts.specs.Views.{calls_left};
+ghost use Rattle.texts.specs.Texts.{checked};
+ghost use Rattle.texts.specs.Views.{calls_left, next_number};
+ghost use Rattle.sources.specs.Tapes.{quotes_in};
+ghost use Rattle.book.specs.Held.{held};
 ghost use Rattle.transcript.specs.Limits.{sized, texts_checked, calls_in};
+ghost use Rattle.transcript.specs.Answering.{Performs, AnswersRow};
 ghost use Rattle.transcript.specs.Format.{answered, answer_lines, begins_with_header, AddsAnswers, Completes, Transcript};
 
 use crate::printing::{Top, begin, print_refusal, print_reports, print_tops};
@@ -14,7 +18,7 @@ use sources::source::QuoteSource;
 use sources::tape::Tape;
 use std::alloc::{AllocError, Global};
 use texts::refusal::TextRefusal;
-use texts::script::{Script, ScriptCall, check_script};
+use texts::script::{Script, ScriptCall};
 use texts::tape::check_tape;
 
 // The most bytes of a text.
@@ -55,15 +59,17 @@ fn check_size(text: &[u8]) -> Result<(), TextRefusal>
     Ok(())
 }
 
-// Refuses the two texts of a session; the quotes go before the script. They stay two parameters: a struct of them would
-// have no other use.
-fn check_texts(quotes: &[u8], script: &[u8]) -> Result<(), TextRefusal>
-    ensures { result ≡ texts_checked quotes.now script.now }
+// The lines of the script, or the refusal of a text of the session; the quotes go before the script. They stay two
+// parameters: a struct of them would have no other use.
+fn script_of<'a>(quotes: &[u8], script: &'a [u8]) -> Result<Script<'a>, TextRefusal>
+    ensures texts { checked result ≡ texts_checked quotes.now script.now }
+    ensures lines { IfOk result (λ s. calls_left s ≡ calls_in script.now) }
+    ensures number { IfOk result (λ s. next_number s ≡ 2) }
 {
     check_size(quotes)?;
     check_tape(quotes)?;
     check_size(script)?;
-    check_script(script)
+    Script::of(script)
 }
 
 fn perform<S: QuoteSource>(
@@ -72,7 +78,8 @@ fn perform<S: QuoteSource>(
     call: ScriptCall,
     reports: &mut [Report],
 ) -> Result<usize, Refusal>
-    ensures { IfOk result (λ count. count ≤ length reports.old) }
+    ensures within { IfOk result (λ count. count ≤ length reports.old) }
+    ensures performs { Performs call (S.quotes source.old) (held book.old) result reports.new (S.quotes source.new) (held book.new) }
 {
     match call {
         ScriptCall::Enter(entry) => book.enter(source, entry, reports),
@@ -94,7 +101,8 @@ fn answer<S: QuoteSource>(
     line: u32,
     reports: &mut [Report],
 ) -> Result<usize, TextRefusal>
-    ensures { IfOk result (λ count. count ≤ length reports.old) }
+    ensures within { IfOk result (λ count. count ≤ length reports.old) }
+    ensures answers { AnswersRow line call (S.quotes source.old) (held book.old) (answered reports.new result) (S.quotes source.new) (held book.new) }
 {
     perform(book, source, call?, reports).map_err(|refusal| TextRefusal {
         refusal,
@@ -124,7 +132,7 @@ fn print_answers<S: QuoteSource>(
     source: &mut S,
     mut script: Script<'_>,
 ) -> Result<(), AllocError>
-    ensures { IfOk result (λ _. AddsAnswers (length (calls_left script.entry)) 0 (string_bytes text.old) (string_bytes text.new)) }
+    ensures { IfOk result (λ _. AddsAnswers (next_number script.entry) (S.quotes source.old) (held book.old) (calls_left script.entry) (string_bytes text.old) (string_bytes text.new)) }
 {
     let mut reports = [UNUSED_REPORT; REPORT_ROWS];
     let mut line = script.number();
@@ -148,23 +156,24 @@ fn top_of(book: &Book, side: Side) -> Top
 
 // Prints the answers and the tops of a session whose texts are good.
 #[tactic(auto, using(crate::proofs::Adding::tops_complete))]
-fn print_calls(text: &mut String, quotes: &[u8], script: &[u8]) -> Result<(), AllocError>
-    ensures { IfOk result (λ _. Completes (Ok tt) (calls_in script.now) (string_bytes text.old) (string_bytes text.new)) }
+fn print_calls(text: &mut String, quotes: &[u8], script: Script<'_>) -> Result<(), AllocError>
+    requires { next_number script ≡ 2 }
+    ensures { IfOk result (λ _. Completes (Ok tt) (quotes_in quotes.now) (calls_left script.entry) (string_bytes text.old) (string_bytes text.new)) }
 {
     let mut rows = [UNUSED_ROW; ORDER_ROWS];
     let mut book = Book::open(BOOK_NUMBER, &mut rows);
     let mut tape = Tape::over(quotes);
-    print_answers(text, &mut book, &mut tape, Script::over(script))?;
+    print_answers(text, &mut book, &mut tape, script)?;
     print_tops(text, top_of(&book, Side::Buy), top_of(&book, Side::Sell))?;
     Ok(())
 }
 
 // Prints all that comes behind the first line.
 fn print_rest(text: &mut String, quotes: &[u8], script: &[u8]) -> Result<(), AllocError>
-    ensures { IfOk result (λ _. Completes (texts_checked quotes.now script.now) (calls_in script.now) (string_bytes text.old) (string_bytes text.new)) }
+    ensures { IfOk result (λ _. Completes (texts_checked quotes.now script.now) (quotes_in quotes.now) (calls_in script.now) (string_bytes text.old) (string_bytes text.new)) }
 {
-    match check_texts(quotes, script) {
-        Ok(()) => print_calls(text, quotes, script),
+    match script_of(quotes, script) {
+        Ok(script) => print_calls(text, quotes, script),
         Err(refused) => print_refusal(text, refused),
     }
 }
@@ -172,7 +181,7 @@ fn print_rest(text: &mut String, quotes: &[u8], script: &[u8]) -> Result<(), All
 // All that a session prints, from the bytes of its quote file and of its script.
 pub fn session(heap: Global, quotes: &[u8], script: &[u8]) -> Result<String, AllocError>
     ensures header { IfOk result (λ s. begins_with_header (string_bytes s) ≡ true) }
-    ensures transcript { IfOk result (λ s. Transcript (texts_checked quotes.now script.now) (calls_in script.now) (string_bytes s)) }
+    ensures transcript { IfOk result (λ s. Transcript (texts_checked quotes.now script.now) (quotes_in quotes.now) (calls_in script.now) (string_bytes s)) }
 {
     let mut text = begin(heap)?;
     print_rest(&mut text, quotes, script)?;

@@ -1,7 +1,7 @@
 // A script read line by line.
-ghost use Rattle.std.specs.Prelude.{◌≡◌, []};
+ghost use Rattle.std.specs.Prelude.{◌≡◌, [], IfOk};
 ghost use Rattle.std.specs.Iterator.{item_count};
-ghost use Rattle.std.specs.Result.{result_unwrap_or};
+ghost use Rattle.std.specs.Result.{result_map_both, result_unwrap_or};
 ghost use Rattle.texts.specs.Scripts.{script};
 ghost use Rattle.texts.specs.Texts.{checked};
 ghost use Rattle.texts.specs.Views.{calls_left, next_number, GivesCall};
@@ -24,6 +24,16 @@ pub fn check_script(text: &[u8]) -> Result<(), TextRefusal>
 }
 
 impl<'a> Script<'a> {
+    // The lines of a script, or why the text is none.
+    pub fn of(text: &'a [u8]) -> Result<Script<'a>, TextRefusal>
+        ensures lines { result_map_both calls_left (λ e. e) result ≡ script text.now }
+        ensures number { IfOk result (λ s. next_number s ≡ 2) }
+    {
+        Ok(Script {
+            lines: SCRIPT.lines(text)?,
+        })
+    }
+
     // The lines of the script; none where the text is refused.
     pub fn over(text: &'a [u8]) -> Script<'a>
         ensures lines { calls_left result ≡ result_unwrap_or (script text.now) [] }

@@ -7,4 +7,4 @@ pub returns-clause-law : goal.returns-clause-law
 returns-clause-law c = call_written
 
 pub returns-clause-place : goal.returns-clause-place
-returns-clause-place c = λ some. subst (AtAByte (length c.args.line.now)) (sym c.read.ensures) (call_placed c.args.line.now some)
+returns-clause-place c = λ some. subst (AtAByte (length c.args.line.now)) (sym c.call_of.ensures) (call_placed c.args.line.now some)

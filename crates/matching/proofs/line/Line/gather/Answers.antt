@@ -1,7 +1,7 @@
 use Rattle.std.proofs.Common.{refl, sym, rules}
 use Rattle.matching.proofs.Gathering.{gathers, skips}
-use Rattle.matching.proofs.line.Line.numbers.Goals as goal
-use Rattle.matching.proofs.line.Line.numbers.Goals.{then-is_in_pass, else-is_in_pass}
+use Rattle.matching.proofs.line.Line.gather.Goals as goal
+use Rattle.matching.proofs.line.Line.gather.Goals.{then-is_in_pass, else-is_in_pass}
 
 pub loop-row-preserved : goal.loop-row-preserved
 loop-row-preserved c =
