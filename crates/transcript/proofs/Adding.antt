@@ -11,18 +11,15 @@ use Rattle.transcript.specs.Answering.{Row, Answer, IsAnswer, AreAnswers, Answer
 use Rattle.transcript.specs.Format.{answer_lines, refusal_line, top_lines, AddsAnswers, Completes}
 
 -- The answers so far: with more answers to the lines left, they are the answers to all lines.
-pub record Answering (number : ℕ) (quotes : List Quote) (line : Line) (rows : List Row) (before : List ℕ) (number' : ℕ) (quotes' : List Quote) (line' : Line) (rows' : List Row) (after : List ℕ) : Type 0 where
+pub record SoFar (number : ℕ) (quotes : List Quote) (line : Line) (rows : List Row) (before : List ℕ) (number' : ℕ) (quotes' : List Quote) (line' : Line) (rows' : List Row) (after : List ℕ) : Type 0 where
   pub answers : List Answer
   pub given : (more : List Answer) → AreAnswers number' quotes' line' rows' more → AreAnswers number quotes line rows (answers ++ more)
   pub is : after ≡ before ++ flat_map answer_lines answers
 
-pub none_yet : (number : ℕ) (quotes : List Quote) (line : Line) (rows : List Row) (before : List ℕ) → Answering number quotes line rows before number quotes line rows before
-none_yet number quotes line rows before = record { answers = []; given = λ more m. m; is = sym (append-nil before) }
-
-module _ {number : ℕ} {quotes : List Quote} {line : Line} {rows : List Row} {before : List ℕ} {n : ℕ} {qs : List Quote} {l : Line} {left : List Row} {between : List ℕ} (h : Answering number quotes line rows before n qs l left between) where
+module _ {number : ℕ} {quotes : List Quote} {line : Line} {rows : List Row} {before : List ℕ} {n : ℕ} {qs : List Quote} {l : Line} {left : List Row} {between : List ℕ} (h : SoFar number quotes line rows before n qs l left between) where
   pub one_more : (k : ℕ) (row : Row) (answer : Answer) (n' : ℕ) (qs' : List Quote) (l' : Line) (left' : List Row) (after : List ℕ)
       → left ≡ row ∷ left' → n' ≡ n + length (take 1 left) → k ≡ n → AnswersRow k row qs l answer qs' l' → after ≡ between ++ answer_lines answer
-      → Answering number quotes line rows before n' qs' l' left' after
+      → SoFar number quotes line rows before n' qs' l' left' after
   one_more k row answer n' qs' l' left' after first next is_n a e =
       let next_line : n' ≡ n + 1 = omega (arith, next, ap (λ rs. length (take 1 rs)) first) in
       record {
